@@ -1,0 +1,167 @@
+// The kinds of things that the catalogue speaks of, with their limits: partitions, slots, names of objects, targets of references,
+// fields, records, operations, refusals; and names as words. That a word and its target invert each other and that words are in the
+// order of names is proved once, for any multiplier above the largest slot number, in proofs/Names.antt.
+ghost use mathlib.Core.Path.{_≡_};
+ghost use Rattle.kinds.specs.Names.{wordOf, targetOf, Named};
+ghost use Rattle.kinds.specs.Answers.{blankRecord, refuse};
+
+// A partition's number.
+pub struct Partition(pub u32);
+
+impl Partition {
+    pub const LIMIT: u32 = 16;
+}
+
+// A slot's number within its partition.
+pub struct Slot(pub u32);
+
+impl Slot {
+    pub const LIMIT: u32 = 64;
+}
+
+// The name of an object: one partition and one slot.
+pub struct Name {
+    pub partition: Partition,
+    pub slot: Slot,
+}
+
+// What a field or a root holds: nothing, or an object.
+pub enum Target {
+    Nothing,
+    Object(Name),
+}
+
+impl Target {
+    // The multiplier of a reference word: nothing is 0, the object in slot s of partition p is RADIX * p + s + 1.
+    pub const RADIX: u32 = Slot::LIMIT;
+
+    // How many roots there are.
+    pub const ROOTS: u32 = 16;
+}
+
+// One field of an object.
+pub struct Field {
+    pub target: Target,
+}
+
+impl Field {
+    // How many fields an object has.
+    pub const LIMIT: u32 = 4;
+}
+
+// An object as it is read: its payload beside its four fields.
+pub struct Record {
+    pub payload: u32,
+    pub fields: [Field; 4],
+}
+
+// An operation of a commit. A clr is a set to nothing, and an unroot a root to nothing.
+pub enum Operation {
+    New(Name, u32),
+    Set(Name, u32, Target),
+    Val(Name, u32),
+    Root(u32, Target),
+}
+
+impl Operation {
+    // The most operations of one commit.
+    pub const LIMIT: usize = 32;
+}
+
+// Why a call is refused: the paper's number, and its extra answer.
+pub struct Refusal {
+    pub number: u32,
+    pub extra: usize,
+}
+
+impl Refusal {
+    pub const UNSOUND: u32 = 1;
+
+    pub const SIZE: u32 = 2;
+
+    pub const HEADING: u32 = 3;
+
+    pub const SHAPE: u32 = 4;
+
+    pub const ORDER: u32 = 5;
+
+    pub const COUNT: u32 = 6;
+
+    pub const RANGE: u32 = 7;
+
+    pub const TAKEN: u32 = 8;
+
+    pub const ABSENT: u32 = 9;
+
+    pub const SHUT: u32 = 10;
+
+    pub const OPENED: u32 = 11;
+
+    pub const ROOTLESS: u32 = 12;
+
+    pub const CLEAN: u32 = 13;
+
+    pub const UNCLEAN: u32 = 14;
+
+    pub const SPENT: u32 = 15;
+
+    pub const UNMARKED: u32 = 16;
+
+    pub const ROOM: u32 = 17;
+}
+
+// What a judge says of an act.
+pub enum Verdict {
+    Accepted,
+    Refused(Refusal),
+}
+
+impl Verdict {
+    // Refused, with a number and an extra answer.
+    pub fn refuse(number: u32, extra: usize) -> Verdict
+        ensures { λ r. ⌜ r ≡ refuse number extra ⌝ }
+    {
+        Verdict::Refused(Refusal {
+            number: number,
+            extra: extra,
+        })
+    }
+}
+
+// The word of a target.
+pub fn word_of(t: Target) -> u32
+    requires { ⌜ Named t ⌝ }
+    ensures { λ r. ⌜ r ≡ wordOf t ⌝ }
+{
+    match t {
+        Target::Nothing => 0,
+        Target::Object(n) => n.partition.0 * Target::RADIX + n.slot.0 + 1,
+    }
+}
+
+// The target that a word is.
+pub fn target_of(w: u32) -> Target
+    ensures { λ r. ⌜ r ≡ targetOf w ⌝ }
+{
+    if w == 0 {
+        return Target::Nothing;
+    }
+    let k = w - 1;
+    Target::Object(Name {
+        partition: Partition(k / Target::RADIX),
+        slot: Slot(k % Target::RADIX),
+    })
+}
+
+// The record of a refusal: payload 0 and four nothings.
+pub fn blank() -> Record
+    ensures { λ r. ⌜ r ≡ blankRecord ⌝ }
+{
+    let f = Field {
+        target: Target::Nothing,
+    };
+    Record {
+        payload: 0,
+        fields: [f, f, f, f],
+    }
+}
