@@ -1,0 +1,219 @@
+-- Keys and their words: which keys are in an image, when two differ, and the laws of get, put, refer and release. Nothing above opens any of these four.
+-- Assumes nothing.
+use Prim.Native.Nat.{ℕ, zero, suc, _+_, _*_, _-_, _≤_, _<_}
+use mathlib.Core.Path.{_≡_, refl, sym, ap, _∙_}
+use mathlib.Core.Bool.{Bool, true, false}
+use mathlib.Core.List.{List, [], _∷_}
+use mathlib.Core.Logic.{_≢_}
+use native.Mathlib.Omega.{arith}
+use lib.ListN.{getD, set, length, replicate, length-set, length-replicate}
+use lib.Seq.{getD-set-same, getD-set-other}
+use lib.Dec.{eqb}
+use borrow.Author.Tests.{eqb-false, eq-eqb}
+use Rattle.loops.specs.Loop.{both, tally, bit}
+use Rattle.loops.proofs.Tests.{clash}
+use Rattle.loops.proofs.Loops.{tally-same, tally-move}
+use Rattle.model.specs.Image.{Image, Key, head, root, flag, state, payload, field, anchors, front, stride, addr, get, put, lengthOf, size, blank, refer, release}
+
+-- a key whose address is no other key's
+abbrev pub Fits : Key → Type 0
+Fits (head h) = h < 5
+Fits (root r) = r < anchors
+Fits (flag p) = p < 16
+Fits (state j) = Unit {0}
+Fits (payload j) = Unit {0}
+Fits (field j k) = k < 4
+
+-- a key that is in an image of n places
+abbrev pub In : ℕ → Key → Type 0
+In n (head h) = h < 5
+In n (root r) = r < anchors
+In n (flag p) = p < 16
+In n (state j) = j < n
+In n (payload j) = j < n
+In n (field j k) = (j < n) × (k < 4)
+
+-- an image of n places
+unfoldable pub Sized : ℕ → Image → Type 0
+Sized n img = length img ≡ front + stride * n
+
+-- two keys are the same: as numbers, so that the test computes for different kinds
+abbrev pub kind : Key → ℕ
+kind (head h) = 0
+kind (root r) = 1
+kind (flag p) = 2
+kind (state j) = 3
+kind (payload j) = 4
+kind (field j k) = 5
+
+abbrev pub major : Key → ℕ
+major (head h) = h
+major (root r) = r
+major (flag p) = p
+major (state j) = j
+major (payload j) = j
+major (field j k) = j
+
+abbrev pub minor : Key → ℕ
+minor (head h) = 0
+minor (root r) = 0
+minor (flag p) = 0
+minor (state j) = 0
+minor (payload j) = 0
+minor (field j k) = k
+
+abbrev pub same : Key → Key → Bool
+same κ μ = both (eqb (kind κ) (kind μ)) (both (eqb (minor κ) (minor μ)) (eqb (major κ) (major μ)))
+
+-- a change of the reference at κ may change the word at μ
+abbrev pub touches : Key → Key → Bool
+touches κ μ = same κ μ
+
+-- different keys have different addresses
+apart : (κ μ : Key) → Fits κ → Fits μ → same κ μ ≡ false → addr κ ≡ addr μ → ⊥
+unfolding addr
+apart (head a) (head b) v w e q = eqb-false a b e (omega arith)
+apart (head a) (root b) v w e q = absurd (omega arith)
+apart (head a) (flag b) v w e q = absurd (omega arith)
+apart (head a) (state b) v w e q = absurd (omega arith)
+apart (head a) (payload b) v w e q = absurd (omega arith)
+apart (head a) (field b d) v w e q = absurd (omega arith)
+apart (root a) (head b) v w e q = absurd (omega arith)
+apart (root a) (root b) v w e q = eqb-false a b e (omega arith)
+apart (root a) (flag b) v w e q = absurd (omega arith)
+apart (root a) (state b) v w e q = absurd (omega arith)
+apart (root a) (payload b) v w e q = absurd (omega arith)
+apart (root a) (field b d) v w e q = absurd (omega arith)
+apart (flag a) (head b) v w e q = absurd (omega arith)
+apart (flag a) (root b) v w e q = absurd (omega arith)
+apart (flag a) (flag b) v w e q = eqb-false a b e (omega arith)
+apart (flag a) (state b) v w e q = absurd (omega arith)
+apart (flag a) (payload b) v w e q = absurd (omega arith)
+apart (flag a) (field b d) v w e q = absurd (omega arith)
+apart (state a) (head b) v w e q = absurd (omega arith)
+apart (state a) (root b) v w e q = absurd (omega arith)
+apart (state a) (flag b) v w e q = absurd (omega arith)
+apart (state a) (state b) v w e q = eqb-false a b e (omega arith)
+apart (state a) (payload b) v w e q = absurd (omega arith)
+apart (state a) (field b d) v w e q = absurd (omega arith)
+apart (payload a) (head b) v w e q = absurd (omega arith)
+apart (payload a) (root b) v w e q = absurd (omega arith)
+apart (payload a) (flag b) v w e q = absurd (omega arith)
+apart (payload a) (state b) v w e q = absurd (omega arith)
+apart (payload a) (payload b) v w e q = eqb-false a b e (omega arith)
+apart (payload a) (field b d) v w e q = absurd (omega arith)
+apart (field a c) (head b) v w e q = absurd (omega arith)
+apart (field a c) (root b) v w e q = absurd (omega arith)
+apart (field a c) (flag b) v w e q = absurd (omega arith)
+apart (field a c) (state b) v w e q = absurd (omega arith)
+apart (field a c) (payload b) v w e q = absurd (omega arith)
+apart (field a c) (field b d) v w e q =
+    let x : eqb a b ≡ true = eq-eqb a b (omega arith) in let y : eqb c d ≡ true = eq-eqb c d (omega arith) in clash {b = both (eqb c d) (eqb a b)} (rw (x, y)) e
+
+pub in-fits : (n : ℕ) (κ : Key) → In n κ → Fits κ
+in-fits n (head h) v = v
+in-fits n (root r) v = v
+in-fits n (flag p) v = v
+in-fits n (state i) v = tt
+in-fits n (payload i) v = tt
+in-fits n (field i k) v = v .1
+
+module _ (n : ℕ) where
+  pub addr-in : (κ : Key) → In n κ → addr κ < front + stride * n
+  unfolding addr
+  addr-in (head h) v = omega arith
+  addr-in (root r) v = omega arith
+  addr-in (flag p) v = omega arith
+  addr-in (state i) v = omega arith
+  addr-in (payload i) v = omega arith
+  addr-in (field i k) v = omega arith
+
+pub get-put-apart : (img : Image) (κ : Key) (v : ℕ) (μ : Key) → Fits κ → Fits μ → same κ μ ≡ false → get (put img κ v) μ ≡ get img μ
+unfolding put get
+get-put-apart img κ v μ i j e = getD-set-other img (addr κ) (addr μ) v 0 (λ q. apart κ μ i j e (sym q))
+
+module _ (n : ℕ) (img : Image) (κ : Key) (v : ℕ) where
+  pub sized-put : Sized n img → Sized n (put img κ v)
+  unfolding Sized put
+  sized-put z = length-set img (addr κ) v ∙ z
+
+  pub get-put-same : Sized n img → In n κ → get (put img κ v) κ ≡ v
+  unfolding Sized put get
+  get-put-same z i = getD-set-same img (addr κ) v 0 (omega (arith, addr-in n κ i))
+
+  pub get-put-other : (μ : Key) → In n κ → In n μ → same κ μ ≡ false → get (put img κ v) μ ≡ get img μ
+  get-put-other μ i j e = get-put-apart img κ v μ (in-fits n κ i) (in-fits n μ j) e
+
+pub refer-apart : (S : ℕ) (img : Image) (κ : Key) (w : ℕ) (μ : Key) → Fits κ → Fits μ → touches κ μ ≡ false → get (refer S img κ w) μ ≡ get img μ
+unfolding refer
+refer-apart S img κ w μ i j e = get-put-apart img κ w μ i j e
+
+pub release-apart : (S : ℕ) (img : Image) (κ μ : Key) → Fits κ → Fits μ → touches κ μ ≡ false → get (release S img κ) μ ≡ get img μ
+unfolding release
+release-apart S img κ μ i j e = get-put-apart img κ 0 μ i j e
+
+module _ (n S : ℕ) (img : Image) (κ : Key) where
+  pub sized-refer : (w : ℕ) → Sized n img → Sized n (refer S img κ w)
+  unfolding refer
+  sized-refer w z = sized-put n img κ w z
+
+  pub refer-same : (w : ℕ) → Sized n img → In n κ → get (refer S img κ w) κ ≡ w
+  unfolding refer
+  refer-same w z i = get-put-same n img κ w z i
+
+  pub sized-release : Sized n img → Sized n (release S img κ)
+  unfolding release
+  sized-release z = sized-put n img κ 0 z
+
+  pub release-same : Sized n img → In n κ → get (release S img κ) κ ≡ 0
+  unfolding release
+  release-same z i = get-put-same n img κ 0 z i
+
+-- the length test and the size
+pub sized-length : (P S : ℕ) (img : Image) → lengthOf img ≡ size P S → Sized (P * S) img
+unfolding Sized lengthOf size
+sized-length P S img e = e
+
+pub length-sized : (P S : ℕ) (img : Image) → Sized (P * S) img → lengthOf img ≡ size P S
+unfolding Sized lengthOf size
+length-sized P S img z = z
+
+zeros : (n a : ℕ) → _≡_ {A = ℕ} (getD (replicate n 0) a 0) 0
+zeros zero a = refl
+zeros (suc n) zero = refl
+zeros (suc n) (suc a) = zeros n a
+
+after-two : (n a b c : ℕ) → 2 ≤ c → getD (a ∷ b ∷ replicate n 0) c 0 ≡ 0
+after-two n a b zero l = absurd (omega arith)
+after-two n a b (suc zero) l = absurd (omega arith)
+after-two n a b (suc (suc c)) l = zeros n c
+
+-- a blank image has the right length, P, S, and zeros
+module _ (P S : ℕ) where
+  pub blank-sized : Sized (P * S) (blank P S)
+  unfolding Sized blank
+  blank-sized = omega (arith, length-replicate {A = ℕ} (front - 2 + stride * (P * S)) 0)
+
+  pub blank-partitions : get (blank P S) (head 0) ≡ P
+  unfolding get blank addr
+  blank-partitions = refl
+
+  pub blank-slots : get (blank P S) (head 1) ≡ S
+  unfolding get blank addr
+  blank-slots = refl
+
+  pub blank-zero : (κ : Key) → 2 ≤ addr κ → get (blank P S) κ ≡ 0
+  unfolding get blank
+  blank-zero κ l = after-two (front - 2 + stride * (P * S)) P S (addr κ) l
+
+-- A count over keys, and how one put moves it
+module _ (n : ℕ) (img : Image) (key : ℕ → Key) (c m : ℕ) (valid : (j : ℕ) → j < m → In n (key j)) where
+  pub count-put : (i v : ℕ) → i < m → Sized n img → ((j : ℕ) → i ≢ j → same (key i) (key j) ≡ false)
+      → tally m (λ j. eqb (get (put img (key i) v) (key j)) c) + bit (eqb (get img (key i)) c) ≡ tally m (λ j. eqb (get img (key j)) c) + bit (eqb v c)
+  count-put i v l z d =
+      rw (get-put-same n img (key i) v z (valid i l)) at
+      (tally-move m (λ j. eqb (get img (key j)) c) (λ j. eqb (get (put img (key i) v) (key j)) c) i l
+      (λ j k ne. ap (λ (w : ℕ). eqb w c) (sym (get-put-other n img (key i) v (key j) (valid i l) (valid j k) (d j (λ q. ne (sym q)))))))
+
+  pub count-other : (κ : Key) (v : ℕ) → In n κ → ((j : ℕ) → same κ (key j) ≡ false) → tally m (λ j. eqb (get (put img κ v) (key j)) c) ≡ tally m (λ j. eqb (get img (key j)) c)
+  count-other κ v i d = tally-same m _ _ (λ j l. ap (λ (w : ℕ). eqb w c) (get-put-other n img κ v (key j) i (valid j l) (d j)))

@@ -1,0 +1,127 @@
+-- The acts, as functions of the image. P partitions of S slots, read once from the image and handed down.
+use Prim.Native.Nat.{ℕ, _+_, _*_}
+use mathlib.Core.Bool.{Bool, true, not, cond}
+use mathlib.Core.List.{List, [], _∷_}
+use lib.Dec.{eqb}
+use Rattle.loops.specs.Loop.{each, both, tally}
+use Rattle.kinds.specs.Names.{wordOf, mostPartitions}
+use Rattle.kinds.specs.declared.Target.{Target}
+use Rattle.kinds.specs.declared.Operation.{Operation}
+use Rattle.kinds.specs.declared.Operation.the-variants.{New, Set, Val, Root}
+use Rattle.model.specs.Image.{Image, Key, root, flag, state, payload, field, phase, count, allowance, anchors, get, put, place, placeOf, partOf, refer, release}
+use Rattle.model.specs.Spread.{pass, spread}
+
+-- an act that a history is made of (a formatting begins one)
+pub data Act : Type 0 where
+  commit : List Operation → Act
+  opening closing : Act
+  trace : ℕ → Act
+
+-- states: 0 free, 1 in use, 2 in use and marked
+abbrev pub used : Image → ℕ → Bool
+used img j = not (eqb (get img (state j)) 0)
+
+abbrev pub marked : Image → ℕ → Bool
+marked img j = eqb (get img (state j)) 2
+
+abbrev pub isOpen : Image → Bool
+isOpen img = eqb (get img phase) 1
+
+-- an unmarked object becomes marked, and its partition not clean
+unfoldable pub mark : ℕ → Image → ℕ → Image
+mark S img j = cond (eqb (get img (state j)) 1) (put (put img (flag (partOf S j)) 0) (state j) 2) img
+
+-- what a reference word names becomes marked
+unfoldable pub markWord : ℕ → Image → ℕ → Image
+markWord S img w = cond (eqb w 0) img (mark S img (placeOf S w))
+
+-- COMMIT: a field or a root takes a target, which is marked while a phase is open
+unfoldable pub store : ℕ → Image → Key → Target → Image
+store S img κ t = refer S (cond (isOpen img) (markWord S img (wordOf t)) img) κ (wordOf t)
+
+-- a new object, born marked while a phase is open
+unfoldable pub born : Image → ℕ → ℕ → Image
+born img j v = put (put img (state j) (cond (isOpen img) 2 1)) (payload j) v
+
+unfoldable pub perform : ℕ → Image → Operation → Image
+perform S img (New n v) = born img (place S n) v
+perform S img (Set n k t) = store S img (field (place S n) k) t
+perform S img (Val n v) = put img (payload (place S n)) v
+perform S img (Root r t) = store S img (root r) t
+
+-- operations are applied in order
+unfoldable pub performAll : ℕ → Image → List Operation → Image
+performAll S img [] = img
+performAll S img (o ∷ os) = performAll S (perform S img o) os
+
+-- the objects in use and unmarked of n places, and the partitions that are not clean
+unfoldable pub unmarked : ℕ → Image → ℕ
+unmarked n img = tally n (λ j. eqb (get img (state j)) 1)
+
+unfoldable pub notClean : ℕ → Image → ℕ
+notClean P img = tally P (λ p. eqb (get img (flag p)) 0)
+
+-- all flags become 0
+unfoldable pub unclean : Image → Image
+unclean img = each mostPartitions (λ x p. put x (flag p) 0) img
+
+-- OPEN: what roots name is marked; all partitions not clean; count 0; allowance P plus the objects then in use and unmarked
+unfoldable pub markRoots : ℕ → Image → Image
+markRoots S img = each anchors (λ x r. markWord S x (get x (root r))) img
+
+unfoldable pub allow : ℕ → ℕ → Image → Image
+allow P S img = put (put img count 0) allowance (P + unmarked (P * S) img)
+
+unfoldable pub openUp : ℕ → ℕ → Image → Image
+openUp P S img = allow P S (markRoots S (unclean (put img phase 1)))
+
+-- TRACE: a field of the object at j refers to a wanted place, and to which
+abbrev pub refers : ℕ → (ℕ → Bool) → Image → ℕ → ℕ → Bool
+refers S wanted img j k = both (not (eqb (get img (field j k)) 0)) (wanted (placeOf S (get img (field j k))))
+
+abbrev pub target : ℕ → Image → ℕ → ℕ → ℕ
+target S img j k = placeOf S (get img (field j k))
+
+-- a place of partition p, and one of another
+abbrev pub own : ℕ → ℕ → ℕ → Bool
+own S p j = eqb (partOf S j) p
+
+abbrev pub foreign : ℕ → ℕ → ℕ → Bool
+foreign S p j = not (own S p j)
+
+-- within p, marks spread to the least set that p's fields inside p lead to
+unfoldable pub inside : ℕ → ℕ → Image → Image
+inside S p img = spread marked (mark S) (refers S (own S p)) (target S) (λ s. p * S + s) S 4 img
+
+-- then objects of other partitions that a marked object of p refers to become marked, and their partitions not clean
+unfoldable pub outside : ℕ → ℕ → Image → Image
+outside S p img = pass marked (mark S) (refers S (foreign S p)) (target S) (λ s. p * S + s) S 4 img
+
+-- p becomes clean, and the count rises by 1
+unfoldable pub finish : ℕ → Image → Image
+finish p img = put (put img (flag p) 1) count (get img count + 1)
+
+unfoldable pub traceOne : ℕ → ℕ → Image → Image
+traceOne S p img = finish p (outside S p (inside S p img))
+
+-- CLOSE: a freed slot is six zeros
+unfoldable pub clear : ℕ → Image → ℕ → Image
+clear S img j = each 4 (λ x k. release S x (field j k)) (put (put img (state j) 0) (payload j) 0)
+
+-- an unmarked object becomes free, a mark becomes state 1
+unfoldable pub settle : ℕ → Image → ℕ → Image
+settle S img j = cond (eqb (get img (state j)) 1) (clear S img j) (cond (eqb (get img (state j)) 2) (put img (state j) 1) img)
+
+-- words 2 to 4 and the flags become 0
+unfoldable pub shut : Image → Image
+shut img = put (put (put (unclean img) phase 0) count 0) allowance 0
+
+unfoldable pub closeUp : ℕ → ℕ → Image → Image
+closeUp P S img = shut (each (P * S) (settle S) img)
+
+-- what an accepted act leaves
+unfoldable pub apply : ℕ → ℕ → Image → Act → Image
+apply P S img (commit os) = performAll S img os
+apply P S img opening = openUp P S img
+apply P S img (trace p) = traceOne S p img
+apply P S img closing = closeUp P S img

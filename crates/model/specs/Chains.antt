@@ -1,0 +1,84 @@
+-- What leads to an object: at one moment, and over a phase. An object is a place and the number of the operation that created it, so that
+-- a slot used again holds another object.
+use Prim.Native.Nat.{ℕ, suc, _<_}
+use mathlib.Core.Bool.{cond}
+use mathlib.Core.List.{List, [], _∷_}
+use mathlib.Core.Path.{_≡_}
+use mathlib.Core.Logic.{_≢_}
+use lib.Dec.{eqb}
+use lib.ListN.{length}
+use Rattle.kinds.specs.declared.Name.{Name}
+use Rattle.kinds.specs.declared.Target.the-variants.{Object}
+use Rattle.kinds.specs.declared.Operation.{Operation}
+use Rattle.kinds.specs.declared.Operation.the-variants.{New, Set, Val, Root}
+use Rattle.model.specs.Image.{Image, Key, root, field, anchors, get, place, placeOf}
+use Rattle.model.specs.Spread.{Reach}
+use Rattle.model.specs.Acts.{Act, commit, opening, closing, trace}
+
+-- at one moment: κ names the object at j
+pub record Names (S : ℕ) (img : Image) (κ : Key) (j : ℕ) : Type 0 where
+  pub some : get img κ ≢ 0
+  pub target : placeOf S (get img κ) ≡ j
+
+-- a root leads to the object at a place
+abbrev pub Leads : ℕ → Image → ℕ → Type 0
+Leads S img = Reach (λ j. (r : ℕ) × (r < anchors) × Names S img (root r) j) (λ i j. (k : ℕ) × (k < 4) × Names S img (field i k) j)
+
+-- a history in steps, the last first: each operation is one
+pub data Step : Type 0 where
+  op : Operation → Step
+  opens closes : Step
+  traced : ℕ → Step
+
+unfoldable pub push : List Operation → List Step → List Step
+push [] h = h
+push (o ∷ os) h = push os (op o ∷ h)
+
+unfoldable pub steps : List Act → List Step → List Step
+steps [] h = h
+steps (commit os ∷ acts) h = push os (steps acts h)
+steps (opening ∷ acts) h = opens ∷ steps acts h
+steps (trace p ∷ acts) h = traced p ∷ steps acts h
+steps (closing ∷ acts) h = closes ∷ steps acts h
+
+-- the number of the step that created the object now at place j
+unfoldable pub birth : ℕ → List Step → ℕ → ℕ
+birth S [] j = 0
+birth S (op (New n v) ∷ h) j = cond (eqb (place S n) j) (suc (length h)) (birth S h j)
+birth S (op (Set n k t) ∷ h) j = birth S h j
+birth S (op (Val n v) ∷ h) j = birth S h j
+birth S (op (Root r t) ∷ h) j = birth S h j
+birth S (opens ∷ h) j = birth S h j
+birth S (closes ∷ h) j = birth S h j
+birth S (traced p ∷ h) j = birth S h j
+
+-- h is `base` with steps on top
+pub data Above (base : List Step) : List Step → Type 0 where
+  bare : Above base base
+  more : {s : Step} {h : List Step} → Above base h → Above base (s ∷ h)
+
+-- in the history h the step s was taken after `base`, with e before it
+pub data Since (base : List Step) : List Step → Step → List Step → Type 0 where
+  last : {s : Step} {h : List Step} → Above base h → Since base (s ∷ h) s h
+  before : {s b : Step} {e h : List Step} → Since base h s e → Since base (b ∷ h) s e
+
+-- A chain to the object at a place with a birth: it starts at a root held at the opening or at an object created or stored as a reference
+-- since, and uses references held at the opening or stored since. x is the heap at the opening, `base` the steps up to there, and
+-- `Taken s e` says that the step s was taken since, with e before it.
+pub data Chain (S : ℕ) (x : Image) (base : List Step) (Taken : Step → List Step → Type 0) : ℕ → ℕ → Type 0 where
+  from-root : {r j : ℕ} → r < anchors → Names S x (root r) j → Chain S x base Taken j (birth S base j)
+  created : {n : Name} {v : ℕ} {e : List Step} → Taken (op (New n v)) e → Chain S x base Taken (place S n) (birth S (op (New n v) ∷ e) (place S n))
+  stored-field : {n q : Name} {k : ℕ} {e : List Step} → Taken (op (Set n k (Object q))) e → Chain S x base Taken (place S q) (birth S e (place S q))
+  stored-root : {r : ℕ} {q : Name} {e : List Step} → Taken (op (Root r (Object q))) e → Chain S x base Taken (place S q) (birth S e (place S q))
+  along-held : {i k j : ℕ} → Chain S x base Taken i (birth S base i) → k < 4 → Names S x (field i k) j → Chain S x base Taken j (birth S base j)
+  along-stored : {n q : Name} {k : ℕ} {e : List Step} → Chain S x base Taken (place S n) (birth S e (place S n)) → Taken (op (Set n k (Object q))) e
+      → Chain S x base Taken (place S q) (birth S e (place S q))
+
+-- the steps of a history up to an opening, and with the acts since
+abbrev pub toOpening : List Act → List Step
+toOpening earlier = opens ∷ steps earlier []
+
+-- after `earlier` a phase was opened on the heap x, and `acts` came since: a chain leads to the object now at place j
+abbrev pub ChainTo : ℕ → List Act → Image → List Act → ℕ → Type 0
+ChainTo S earlier x acts j =
+    Chain S x (toOpening earlier) (Since (toOpening earlier) (steps acts (toOpening earlier))) j (birth S (steps acts (toOpening earlier)) j)

@@ -1,0 +1,40 @@
+-- Histories: acts, each accepted where it stands, and what is counted over them.
+use Prim.Native.Nat.{ℕ, _+_, _*_}
+use mathlib.Core.Bool.{Bool, not}
+use mathlib.Core.List.{List, [], _∷_}
+use mathlib.Core.Path.{_≡_}
+use lib.Dec.{eqb}
+use Rattle.loops.specs.Loop.{both, every, tally}
+use Rattle.kinds.specs.declared.Verdict.the-variants.{Accepted}
+use Rattle.model.specs.Image.{Image, Key, root, anchors, get, placeOf}
+use Rattle.model.specs.Acts.{Act, commit, opening, closing, trace, used, apply}
+use Rattle.model.specs.Judge.{judge}
+
+-- y comes from x by acts, the last first, each accepted where it stands
+pub data Run (P S : ℕ) (x : Image) : List Act → Image → Type 0 where
+  still : Run P S x [] x
+  acted : {acts : List Act} {y : Image} (a : Act) → Run P S x acts y → judge P S y a ≡ Accepted → Run P S x (a ∷ acts) (apply P S y a)
+
+-- the accepted traces of a history
+unfoldable pub traces : List Act → ℕ
+traces [] = 0
+traces (commit os ∷ acts) = traces acts
+traces (opening ∷ acts) = traces acts
+traces (trace p ∷ acts) = traces acts + 1
+traces (closing ∷ acts) = traces acts
+
+-- a history that closes no phase
+abbrev pub Unclosed : List Act → Type 0
+Unclosed [] = Unit {0}
+Unclosed (commit os ∷ acts) = Unclosed acts
+Unclosed (opening ∷ acts) = Unclosed acts
+Unclosed (trace p ∷ acts) = Unclosed acts
+Unclosed (closing ∷ acts) = ⊥
+
+-- the root or field κ names the object at j
+abbrev pub names : ℕ → Image → Key → ℕ → Bool
+names S img κ j = both (not (eqb (get img κ) 0)) (eqb (placeOf S (get img κ)) j)
+
+-- W: the objects in use that no root names
+unfoldable pub unrooted : ℕ → ℕ → Image → ℕ
+unrooted P S img = tally (P * S) (λ j. both (used img j) (every anchors (λ r. not (names S img (root r) j))))

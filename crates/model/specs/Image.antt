@@ -1,0 +1,88 @@
+-- The image: a list of words, each named by a key. Slot s of partition p is the place p·S + s, and keys go by place.
+use Prim.Native.Nat.{ℕ, _+_, _*_, _-_, _/_, _%_, _<_}
+use mathlib.Core.List.{List, _∷_}
+use lib.ListN.{getD, set, length, replicate}
+use Rattle.kinds.specs.Names.{radix}
+use Rattle.kinds.specs.declared.Name.{Name}
+
+abbrev pub Image : Type 0
+Image = List ℕ
+
+-- a word of the image: of the head, a root, a partition's flag, and of a place its state, its payload and its fields
+pub data Key : Type 0 where
+  head root flag state payload : ℕ → Key
+  field : ℕ → ℕ → Key
+
+-- the words of the head
+abbrev pub partitions : Key
+partitions = head 0
+
+abbrev pub slots : Key
+slots = head 1
+
+abbrev pub phase : Key
+phase = head 2
+
+abbrev pub count : Key
+count = head 3
+
+abbrev pub allowance : Key
+allowance = head 4
+
+-- the words before the slots, the words of a slot, and the holders that are no fields: the roots
+abbrev pub front : ℕ
+front = 37
+
+abbrev pub stride : ℕ
+stride = 6
+
+abbrev pub anchors : ℕ
+anchors = 16
+
+-- the paper's table of words
+unfoldable pub addr : Key → ℕ
+addr (head h) = h
+addr (root r) = 5 + r
+addr (flag p) = 21 + p
+addr (state j) = front + stride * j
+addr (payload j) = front + stride * j + 1
+addr (field j k) = front + stride * j + 2 + k
+
+unfoldable pub get : Image → Key → ℕ
+get img κ = getD img (addr κ) 0
+
+unfoldable pub put : Image → Key → ℕ → Image
+put img κ v = set img (addr κ) v
+
+-- how many words an image has, and how many P partitions of S slots need
+unfoldable pub lengthOf : Image → ℕ
+lengthOf img = length img
+
+unfoldable pub size : ℕ → ℕ → ℕ
+size P S = front + stride * (P * S)
+
+-- format leaves P, S, phase shut, nothing else set
+unfoldable pub blank : ℕ → ℕ → Image
+blank P S = P ∷ S ∷ replicate (front - 2 + stride * (P * S)) 0
+
+-- the place of a name, the place that a reference word names, and the partition of a place
+abbrev pub place : ℕ → Name → ℕ
+place S n = n .partition .0 * S + n .slot .0
+
+unfoldable pub placeOf : ℕ → ℕ → ℕ
+placeOf S w = (w - 1) / radix * S + (w - 1) % radix
+
+unfoldable pub partOf : ℕ → ℕ → ℕ
+partOf S j = j / S
+
+-- a reference is stored, and a freed object's reference goes: nothing else writes one
+unfoldable pub refer : ℕ → Image → Key → ℕ → Image
+refer S img κ w = put img κ w
+
+unfoldable pub release : ℕ → Image → Key → Image
+release S img κ = put img κ 0
+
+-- what holds a reference in an image of n places: a root, or a field of a place
+pub data Holder (n : ℕ) : Key → Type 0 where
+  a-root : {r : ℕ} → r < anchors → Holder n (root r)
+  a-field : {j k : ℕ} → j < n → k < 4 → Holder n (field j k)

@@ -1,0 +1,3 @@
+// The paper in definitions: the image by keys and places, soundness, the acts, the questions, the order of refusals, histories and
+// chains (specs/); and the theorems over them (proofs/): every accepted act keeps soundness, the closure behind a trace and the
+// question, and demand 3 as one record over histories (proofs/Demand.antt). The crate has no code: the crates above have the acts.
