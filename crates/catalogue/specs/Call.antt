@@ -28,6 +28,10 @@ use Rattle.catalogue.specs.declared.Reading.{Reading}
 use Rattle.catalogue.specs.declared.Asked.{Asked}
 use Rattle.catalogue.specs.declared.Asked.the-variants.{Yes, No, Refused as NotAsked}
 
+-- 17, judged last
+abbrev pub noRoom : Refusal
+noRoom = record { number = 17; extra = 0 }
+
 -- a logged call's answer, and the image and the log buffer that it leaves
 pub record Outcome (A : Type 0) : Type 0 where
   pub answer : A
@@ -43,7 +47,7 @@ module _ {A : Type 0} where
   perform done no (Refused r) record-bytes next img log at = outcome (no r) img log
   perform done no Accepted record-bytes next img log at =
       cond (leb (at + length record-bytes) (length log)) (outcome (done (length record-bytes)) next (splice log at record-bytes))
-      (outcome (no (record { number = 17; extra = 0 })) img log)
+      (outcome (no noRoom) img log)
 
 -- P and S are words 0 and 1
 abbrev pub judgeIn : Image → Act → Verdict
@@ -97,13 +101,13 @@ abbrev pub reading : Verdict → Record → Reading
 reading Accepted r = record { verdict = Accepted; record = r }
 reading (Refused x) r = record { verdict = Refused x; record = blankRecord }
 
-unfoldable pub readOfCall : Image → Name → Reading
-readOfCall img n = reading (judgeObject img n) (readOf img (place (get img slots) n))
+unfoldable pub readingOf : Image → Name → Reading
+readingOf img n = reading (judgeObject img n) (readOf img (place (get img slots) n))
 
 -- refused: no
 abbrev pub asked : Verdict → Bool → Asked
 asked Accepted b = cond b Yes No
 asked (Refused x) b = NotAsked x
 
-unfoldable pub askOf : Image → Name → Asked
-askOf img n = asked (judgeObject img n) (ask (get img partitions) (get img slots) img (place (get img slots) n))
+unfoldable pub askedOf : Image → Name → Asked
+askedOf img n = asked (judgeObject img n) (ask (get img partitions) (get img slots) img (place (get img slots) n))
