@@ -1,1 +1,8 @@
 pub mod Keys
+pub mod Places
+pub mod Spreading
+pub mod Moves
+pub mod Tracing
+pub mod Committing
+pub mod Opening
+pub mod Closing
