@@ -6,3 +6,7 @@ pub mod Tracing
 pub mod Committing
 pub mod Opening
 pub mod Closing
+pub mod Making
+pub mod Reaching
+pub mod Refusing
+pub mod Bound
