@@ -13,3 +13,5 @@ pub mod Bound
 pub mod Chaining
 pub mod Bits
 pub mod Asking
+pub mod Quiet
+pub mod Table

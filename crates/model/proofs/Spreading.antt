@@ -21,6 +21,11 @@ pub record Spreads {X : Type 0} (has : X → ℕ → Bool) (add : X → ℕ → 
   pub target-add : (x : X) (t i k : ℕ) → Ok x → U x t → k < K → target (add x t) i k ≡ target x i k
   pub inside : (x : X) (j k : ℕ) → Ok x → j < n → k < K → edge x (at j) k ≡ true → U x (target x (at j) k)
 
+-- the same start along more edges
+pub reach-along : {Start : ℕ → Type 0} {E F : ℕ → ℕ → Type 0} → ((i j : ℕ) → E i j → F i j) → {i : ℕ} → Reach Start E i → Reach Start F i
+reach-along h (start s) = start s
+reach-along h (step {i = i} {j = j} r e) = step (reach-along h r) (h i j e)
+
 same-or-less : {X : Type 0} (m : X → ℕ) (a z y : X) → (z ≡ y) ⊎ (m z < m y) → (a ≡ z) ⊎ (m a < m z) → (a ≡ y) ⊎ (m a < m y)
 same-or-less m a z y (inl p) (inl q) = inl (q ∙ p)
 same-or-less m a z y (inl p) (inr q) = inr (rw p at q)
