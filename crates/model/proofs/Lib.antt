@@ -7,3 +7,5 @@ pub mod Tracing
 pub mod Committing
 pub mod Opening
 pub mod Closing
+pub mod SoundnessMoves
+pub mod SoundnessActs

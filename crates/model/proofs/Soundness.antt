@@ -14,6 +14,7 @@ use Rattle.kinds.specs.Names.{radix, mostPartitions, mostSlots}
 use Rattle.model.specs.Image.{Image, Key, root, flag, state, payload, field, partitions, slots, phase, count, allowance, anchors, get, lengthOf, size, placeOf, Holder, a-root, a-field}
 use Rattle.model.specs.Acts.{used, marked, isOpen}
 use Rattle.model.specs.Judge.{inLimits}
+use Rattle.model.proofs.Places.{Shape}
 use Rattle.model.specs.Sound.{inRange, refOk, freeOk, slotOk, rootOk, flagOk, flagDown, unmarkedAt, openOk, shutOk, soundAt, isSound, NamesUsed, Free, ShutHead, OpenHead, SoundAt, Sound}
 
 -- what a test of the form "this, or else that" tells, and how it passes
@@ -25,14 +26,8 @@ cond-so true b h = refl
 cond-so false b h = h refl
 
 -- P is 1 to 16, S is 1 to 64
-pub record Limits (P S : ℕ) : Type 0 where
-  pub some-partition : 0 < P
-  pub partitions-most : P ≤ mostPartitions
-  pub some-slot : 0 < S
-  pub slots-most : S ≤ mostSlots
-
 module _ (P S : ℕ) where
-  pub limits-true : inLimits P S ≡ true → Limits P S
+  pub limits-true : inLimits P S ≡ true → Shape P S
   unfolding inLimits
   limits-true e =
       let a = both-true (both (ltb 0 P) (leb P mostPartitions)) (both (ltb 0 S) (leb S mostSlots)) e in
@@ -45,12 +40,12 @@ module _ (P S : ℕ) where
         slots-most = leb-true S mostSlots (s .1);
       }
 
-  pub limits-back : Limits P S → inLimits P S ≡ true
+  pub limits-back : Shape P S → inLimits P S ≡ true
   unfolding inLimits
   limits-back h =
       rw (lt-ltb 0 P (h .some-partition), le-leb P mostPartitions (h .partitions-most), lt-ltb 0 S (h .some-slot), le-leb S mostSlots (h .slots-most))
 
-  pub limits-not : (Limits P S → ⊥) → inLimits P S ≡ false
+  pub limits-not : (Shape P S → ⊥) → inLimits P S ≡ false
   limits-not h = is-false (inLimits P S) (λ e. h (limits-true e))
 
   -- the numbers of a reference word
@@ -316,7 +311,7 @@ module _ (P S : ℕ) (x : Image) where
   pub sound-flag : SoundAt P S x → (p : ℕ) → p < mostPartitions → FlagOk P x p
   sound-flag h p l = record { low = h .flag-bits p l; beyond = h .flags-beyond p l }
 
-  pub sound-limits : SoundAt P S x → Limits P S
+  pub sound-limits : SoundAt P S x → Shape P S
   sound-limits h =
       record {
         some-partition = h .some-partition;
