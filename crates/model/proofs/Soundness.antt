@@ -26,8 +26,11 @@ cond-so true b h = refl
 cond-so false b h = h refl
 
 -- P is 1 to 16, S is 1 to 64
+abbrev pub Limits : ℕ → ℕ → Type 0
+Limits P S = Shape P S
+
 module _ (P S : ℕ) where
-  pub limits-true : inLimits P S ≡ true → Shape P S
+  pub limits-true : inLimits P S ≡ true → Limits P S
   unfolding inLimits
   limits-true e =
       let a = both-true (both (ltb 0 P) (leb P mostPartitions)) (both (ltb 0 S) (leb S mostSlots)) e in
@@ -40,12 +43,12 @@ module _ (P S : ℕ) where
         slots-most = leb-true S mostSlots (s .1);
       }
 
-  pub limits-back : Shape P S → inLimits P S ≡ true
+  pub limits-back : Limits P S → inLimits P S ≡ true
   unfolding inLimits
   limits-back h =
       rw (lt-ltb 0 P (h .some-partition), le-leb P mostPartitions (h .partitions-most), lt-ltb 0 S (h .some-slot), le-leb S mostSlots (h .slots-most))
 
-  pub limits-not : (Shape P S → ⊥) → inLimits P S ≡ false
+  pub limits-not : (Limits P S → ⊥) → inLimits P S ≡ false
   limits-not h = is-false (inLimits P S) (λ e. h (limits-true e))
 
   -- the numbers of a reference word
@@ -311,7 +314,7 @@ module _ (P S : ℕ) (x : Image) where
   pub sound-flag : SoundAt P S x → (p : ℕ) → p < mostPartitions → FlagOk P x p
   sound-flag h p l = record { low = h .flag-bits p l; beyond = h .flags-beyond p l }
 
-  pub sound-limits : SoundAt P S x → Shape P S
+  pub sound-limits : SoundAt P S x → Limits P S
   sound-limits h =
       record {
         some-partition = h .some-partition;
