@@ -1,5 +1,7 @@
 pub mod Keys
 pub mod Soundness
+pub mod SoundnessMoves
+pub mod SoundnessActs
 pub mod Places
 pub mod Spreading
 pub mod Moves
@@ -7,5 +9,7 @@ pub mod Tracing
 pub mod Committing
 pub mod Opening
 pub mod Closing
-pub mod SoundnessMoves
-pub mod SoundnessActs
+pub mod Making
+pub mod Reaching
+pub mod Refusing
+pub mod Bound

@@ -80,6 +80,9 @@ module _ (P S : ℕ) (shape : Shape P S) where
         states = λ i. inl (unclean-other _ (state i) tt (λ p. refl) ∙ get-put-apart x phase 1 (state i) (omega arith) tt refl);
       }
 
+  pub open-started : (x : Image) → Linked P S x → Linked P S (unclean (put x phase 1))
+  open-started x w = ready x w .linked
+
   ready-roots : (x : Image) → Linked P S x → Ready x (markRoots S (started x))
   unfolding markRoots
   ready-roots x w = each-keeps (Ready x) _ _ (λ y r l g. ready-root x y r l g) _ (ready x w)
