@@ -9,7 +9,7 @@ use native.Mathlib.Omega.{arith}
 use native.Mathlib.Decide.{ℕ-discrete}
 use lib.Dec.{eqb}
 use lib.ListN.{replicate}
-use borrow.Author.Tests.{eqb-true, eqb-false, ne-eqb, not-true, ltb-true}
+use borrow.Author.Tests.{eqb-true, eqb-false, not-true, ltb-true}
 use Rattle.loops.specs.Loop.{every, tally}
 use Rattle.loops.proofs.Loops.{each-keeps, tally-le}
 use Rattle.kinds.specs.Names.{radix, mostPartitions, wordOf}
@@ -22,14 +22,15 @@ use Rattle.model.specs.Image.{Image, Key, addr, blank, partitions, slots
 use Rattle.model.specs.Acts.{Act, commit, opening, closing, trace, marked, closeUp, refers, target, own, foreign, mark, markWord, perform, unmarked, unclean, markRoots, allow, openUp, inside, outside, finish, traceOne, apply}
 use Rattle.model.specs.Judge.{inLimits, led, judge}
 use Rattle.model.specs.History.{Run, still, acted}
-use Rattle.model.specs.Sound.{isSound, NamesUsed, ShutHead, OpenHead, SoundAt}
+use Rattle.model.specs.Sound.{isSound, Sound, NamesUsed, ShutHead, SoundAt}
 use Rattle.model.proofs.Keys.{Sized, get-put-apart, get-put-same, sized-put, zeros, blank-sized, blank-partitions, blank-slots, blank-zero}
 use Rattle.model.proofs.Places.{Shape, slot-in, word-none, place-word}
 use Rattle.model.proofs.Spreading.{pass-keeps, spread-keeps}
 use Rattle.model.proofs.Moves.{Linked}
 use Rattle.model.proofs.Tracing.{refers-is}
 use Rattle.model.proofs.Committing.{check-true, May, none, some, Good, good-new, good-set, good-val, good-root, commit-keeps}
-use Rattle.model.proofs.Closing.{Content, the-payload, the-field, Leading, led-leads, close-size, close-phase, close-count, close-allowance, close-flag, close-state, close-freed, close-kept, close-root, close-head}
+use Rattle.model.proofs.Closing.{Content, the-payload, the-field, Leading, led-leads, close-size, close-phase, close-count, close-allowance, close-flag, close-state, close-freed, close-kept, close-root}
+use Rattle.model.proofs.Making.{made, made-heading}
 use Rattle.model.proofs.Soundness.{limits-true, sound-limits, sound-true, sound-back, sound-not}
 use Rattle.model.proofs.SoundnessMoves.{WordUsed, Body, Head, Holds, sound-of, sound-linked, sound-body, put-written, holds-self, holds-more, open-head, head-written, holds-flag, holds-mark, holds-mark-word, holds-payload, holds-store, holds-born, reference-place}
 
@@ -42,28 +43,10 @@ word-slot : (q : Name) → q .slot .0 < radix → (wordOf (Object q) - 1) % radi
 unfolding wordOf
 word-slot q l = omega arith
 
--- y is sound and has x's words 0 and 1
-pub record Kept (P S : ℕ) (x y : Image) : Type 0 where
-  pub sound : SoundAt P S y
-  pub words : (h : ℕ) → h < 2 → get y (head h) ≡ get x (head h)
-
 module _ (P S : ℕ) where
-  holds-kept : {x y : Image} → Holds P S x y → Kept P S x y
-  holds-kept h = record { sound = h .sound; words = λ i l. h .heads i (omega arith) }
-
-  kept-self : {x : Image} → SoundAt P S x → Kept P S x x
-  kept-self s = record { sound = s; words = λ i l. refl }
-
-  kept-more : {x y z : Image} → Kept P S x y → Holds P S y z → Kept P S x z
-  kept-more k h = record { sound = h .sound; words = λ i l. h .heads i (omega arith) ∙ k .words i l }
-
-  -- a word of the head, beyond words 0 and 1
-  kept-head : {x y : Image} (h v : ℕ) → 2 ≤ h → h < 5 → Kept P S x y → Head P S (put y (head h) v) → Kept P S x (put y (head h) v)
-  kept-head {x} {y} h v l m k t =
-      record {
-        sound = head-written P S (put-written (P * S) y (head h) v (sound-body P S y (k .sound) .sized) m) (k .sound) t;
-        words = λ i b. get-put-apart y (head h) v (head i) m (omega arith) (ne-eqb h i (λ q. omega arith)) ∙ k .words i b;
-      }
+  -- a word of the head
+  sound-put : (x : Image) (h v : ℕ) → h < 5 → SoundAt P S x → Head P S (put x (head h) v) → SoundAt P S (put x (head h) v)
+  sound-put x h v l s t = head-written P S (put-written (P * S) x (head h) v (sound-body P S x s .sized) l) s t
 
   -- COMMIT: a target that may be stored, and one operation
   target-word : (x : Image) (t : Target) → SoundAt P S x → May P S x t → wordOf t ≢ 0 → WordUsed P S x (wordOf t)
@@ -72,7 +55,7 @@ module _ (P S : ℕ) where
       let b : q .slot .0 < radix = omega (arith, s .slots-most) in
       record { partition = rw (word-partition q b) l; slot = rw (word-slot q b) m; in-use = rw (place-word S q b) u }
 
-  holds-perform : (x : Image) (o : Operation) → Good P S x o → SoundAt P S x → Holds P S x (perform S x o)
+  pub holds-perform : (x : Image) (o : Operation) → Good P S x o → SoundAt P S x → Holds P S x (perform S x o)
   unfolding perform
   holds-perform x _ (good-new l m e) s = holds-born P S x _ _ (slot-in P S (s .some-slot) _ _ l m) s
   holds-perform x _ (good-set {n = n} {k = k} {t = t} l m b u d) s =
@@ -81,13 +64,13 @@ module _ (P S : ℕ) where
   holds-perform x _ (good-root {r = r} {t = t} l d) s = holds-store P S x (root r) t (a-root l) tt (target-word x t s d) s
 
   -- OPEN: every step keeps soundness, the phase being open with count and allowance 0 at first
-  holds-unclean : (x : Image) → SoundAt P S x → Holds P S x (unclean x)
+  pub holds-unclean : (x : Image) → SoundAt P S x → Holds P S x (unclean x)
   unfolding unclean
   holds-unclean x s =
       each-keeps (Holds P S x) mostPartitions (λ y p. put y (flag p) 0)
       (λ y p l h. holds-more P S h (holds-flag P S y p 0 l (omega arith) (λ q. refl) (λ q. refl) (h .sound))) x (holds-self P S x s)
 
-  holds-mark-roots : (x : Image) → get x phase ≡ 1 → SoundAt P S x → Holds P S x (markRoots S x)
+  pub holds-mark-roots : (x : Image) → get x phase ≡ 1 → SoundAt P S x → Holds P S x (markRoots S x)
   unfolding markRoots
   holds-mark-roots x o s =
       each-keeps (Holds P S x) anchors (λ y r. markWord S y (get y (root r)))
@@ -96,33 +79,36 @@ module _ (P S : ℕ) where
       (holds-mark-word P S y (get y (root r)) (λ n. reference-place P S y (root r) (a-root l) n (h .sound)) (h .heads 2 (omega arith) ∙ o) (h .sound))) x
       (holds-self P S x s)
 
-  kept-open : (x : Image) → get x phase ≡ 0 → SoundAt P S x → Kept P S x (openUp P S x)
-  unfolding openUp allow unmarked
-  kept-open x o s =
+  -- count 0, and an allowance of at most P + P·S
+  pub allow-sound : (x : Image) → get x phase ≡ 1 → SoundAt P S x → SoundAt P S (allow P S x)
+  unfolding allow unmarked
+  allow-sound x o s =
       let z : Sized (P * S) x = sound-body P S x s .sized in
+      let y : Image = put x count 0 in
+      let o₁ : get y phase ≡ 1 = get-put-apart x count 0 phase (omega arith) (omega arith) refl ∙ o in
+      let a₁ : get y allowance ≡ get x allowance = get-put-apart x count 0 allowance (omega arith) (omega arith) refl in
+      let c₁ : get y count ≡ 0 = get-put-same (P * S) x count 0 z (omega arith) in
+      let b : get x allowance ≤ P + P * S = s .opened o .allowed in
+      let s₁ : SoundAt P S y = sound-put x 3 0 (omega arith) s (open-head P S y o₁ (omega arith) (omega arith)) in
+      let w : ℕ = P + tally (P * S) (λ j. eqb (get x (state j)) 1) in
+      let o₂ : get (put y allowance w) phase ≡ 1 = get-put-apart y allowance w phase (omega arith) (omega arith) refl ∙ o₁ in
+      let a₂ : get (put y allowance w) allowance ≡ w = get-put-same (P * S) y allowance w (sized-put (P * S) x count 0 z) (omega arith) in
+      let c₂ : get (put y allowance w) count ≡ 0 = get-put-apart y allowance w count (omega arith) (omega arith) refl ∙ c₁ in
+      let le : tally (P * S) (λ j. eqb (get x (state j)) 1) ≤ P * S = tally-le (P * S) (λ j. eqb (get x (state j)) 1) in
+      sound-put y 4 w (omega arith) s₁ (open-head P S (put y allowance w) o₂ (omega arith) (omega arith))
+
+  pub open-sound : (x : Image) → get x phase ≡ 0 → SoundAt P S x → SoundAt P S (openUp P S x)
+  unfolding openUp
+  open-sound x o s =
       let t : ShutHead P S x = s .shut o in
-      let y₁ : Image = put x phase 1 in
-      let o₁ : get y₁ phase ≡ 1 = get-put-same (P * S) x phase 1 z (omega arith) in
-      let a₁ : get y₁ allowance ≡ 0 = get-put-apart x phase 1 allowance (omega arith) (omega arith) refl ∙ t .allowed in
-      let c₁ : get y₁ count ≡ 0 = get-put-apart x phase 1 count (omega arith) (omega arith) refl ∙ t .counted in
-      let k₁ : Kept P S x y₁ = kept-head {y = x} 2 1 (omega arith) (omega arith) (kept-self s) (open-head P S y₁ o₁ (omega arith) (omega arith)) in
-      let h₂ : Holds P S y₁ (unclean y₁) = holds-unclean y₁ (k₁ .sound) in
-      let y₃ : Image = markRoots S (unclean y₁) in
-      let h₃ : Holds P S y₁ y₃ = holds-more P S h₂ (holds-mark-roots (unclean y₁) (h₂ .heads 2 (omega arith) ∙ o₁) (h₂ .sound)) in
-      let k₃ : Kept P S x y₃ = kept-more k₁ h₃ in
-      let z₃ : Sized (P * S) y₃ = sound-body P S y₃ (h₃ .sound) .sized in
-      let y₄ : Image = put y₃ count 0 in
-      let o₄ : get y₄ phase ≡ 1 = get-put-apart y₃ count 0 phase (omega arith) (omega arith) refl ∙ h₃ .heads 2 (omega arith) ∙ o₁ in
-      let a₄ : get y₄ allowance ≡ 0 = get-put-apart y₃ count 0 allowance (omega arith) (omega arith) refl ∙ h₃ .heads 4 (omega arith) ∙ a₁ in
-      let c₄ : get y₄ count ≡ 0 = get-put-same (P * S) y₃ count 0 z₃ (omega arith) in
-      let k₄ : Kept P S x y₄ = kept-head 3 0 (omega arith) (omega arith) k₃ (open-head P S y₄ o₄ (omega arith) (omega arith)) in
-      let w : ℕ = P + tally (P * S) (λ j. eqb (get y₃ (state j)) 1) in
-      let y₅ : Image = put y₄ allowance w in
-      let o₅ : get y₅ phase ≡ 1 = get-put-apart y₄ allowance w phase (omega arith) (omega arith) refl ∙ o₄ in
-      let a₅ : get y₅ allowance ≡ w = get-put-same (P * S) y₄ allowance w (sized-put (P * S) y₃ count 0 z₃) (omega arith) in
-      let c₅ : get y₅ count ≡ 0 = get-put-apart y₄ allowance w count (omega arith) (omega arith) refl ∙ c₄ in
-      let le : tally (P * S) (λ j. eqb (get y₃ (state j)) 1) ≤ P * S = tally-le (P * S) (λ j. eqb (get y₃ (state j)) 1) in
-      kept-head 4 w (omega arith) (omega arith) k₄ (open-head P S y₅ o₅ (omega arith) (omega arith))
+      let y : Image = put x phase 1 in
+      let o₁ : get y phase ≡ 1 = get-put-same (P * S) x phase 1 (sound-body P S x s .sized) (omega arith) in
+      let a₁ : get y allowance ≡ 0 = get-put-apart x phase 1 allowance (omega arith) (omega arith) refl ∙ t .allowed in
+      let c₁ : get y count ≡ 0 = get-put-apart x phase 1 count (omega arith) (omega arith) refl ∙ t .counted in
+      let h : Holds P S y (unclean y) = holds-unclean y (sound-put x 2 1 (omega arith) s (open-head P S y o₁ (omega arith) (omega arith))) in
+      let o₂ : get (unclean y) phase ≡ 1 = h .heads 2 (omega arith) ∙ o₁ in
+      let g : Holds P S (unclean y) (markRoots S (unclean y)) = holds-mark-roots (unclean y) o₂ (h .sound) in
+      allow-sound (markRoots S (unclean y)) (g .heads 2 (omega arith) ∙ o₂) (g .sound)
 
   -- TRACE: both halves are rows of marks
   module _ (x : Image) (p : ℕ) (l : p < P) (o : get x phase ≡ 1) where
@@ -146,28 +132,29 @@ module _ (P S : ℕ) where
         pass-keeps marked (mark S) (refers S (foreign S p)) (target S) (λ s. p * S + s) S 4 (Holds P S x)
         (λ y j k lj lk m e h. step (foreign S p) y j k lj lk e h) y h
 
-  kept-trace : (x : Image) (p : ℕ) → p < P → get x phase ≡ 1 → get x count ≢ get x allowance → SoundAt P S x → Kept P S x (traceOne S p x)
-  unfolding traceOne finish
-  kept-trace x p l o c s =
+  -- p becomes clean, and the count rises where it was below the allowance
+  pub finish-sound : (x : Image) (p : ℕ) → p < P → get x phase ≡ 1 → get x count < get x allowance → SoundAt P S x → SoundAt P S (finish p x)
+  unfolding finish
+  finish-sound x p l o c s =
       let b : P ≤ mostPartitions = s .partitions-most in
-      let y₁ : Image = outside S p (inside S p x) in
-      let h₁ : Holds P S x y₁ = holds-outside x p l o (inside S p x) (holds-inside x p l o s) in
-      let o₁ : get y₁ phase ≡ 1 = h₁ .heads 2 (omega arith) ∙ o in
-      let y₂ : Image = put y₁ (flag p) 1 in
-      let h₂ : Holds P S x y₂ =
-      holds-more P S h₁ (holds-flag P S y₁ p 1 (omega arith) (omega arith) (λ q. absurd (omega arith)) (λ q. absurd (omega arith)) (h₁ .sound)) in
-      let z₂ : Sized (P * S) y₂ = sound-body P S y₂ (h₂ .sound) .sized in
-      let c₁ : get y₁ count ≡ get x count = h₁ .heads 3 (omega arith) in
-      let a₂ : get y₂ allowance ≡ get x allowance = h₂ .heads 4 (omega arith) in
-      let w : ℕ = get y₁ count + 1 in
-      let y₃ : Image = put y₂ count w in
-      let o₃ : get y₃ phase ≡ 1 = get-put-apart y₂ count w phase (omega arith) (omega arith) refl ∙ h₂ .heads 2 (omega arith) ∙ o in
-      let a₃ : get y₃ allowance ≡ get x allowance = get-put-apart y₂ count w allowance (omega arith) (omega arith) refl ∙ a₂ in
-      let c₃ : get y₃ count ≡ w = get-put-same (P * S) y₂ count w z₂ (omega arith) in
-      let t : OpenHead P S x = s .opened o in
-      let t₁ : get x allowance ≤ P + P * S = t .allowed in
-      let t₂ : get x count ≤ get x allowance = t .counted in
-      kept-head 3 w (omega arith) (omega arith) (holds-kept h₂) (open-head P S y₃ o₃ (omega arith) (omega arith))
+      let y : Image = put x (flag p) 1 in
+      let h : Holds P S x y = holds-flag P S x p 1 (omega arith) (omega arith) (λ q. absurd (omega arith)) (λ q. absurd (omega arith)) s in
+      let w : ℕ = get x count + 1 in
+      let o₁ : get (put y count w) phase ≡ 1 = get-put-apart y count w phase (omega arith) (omega arith) refl ∙ h .heads 2 (omega arith) ∙ o in
+      let a₁ : get (put y count w) allowance ≡ get x allowance = get-put-apart y count w allowance (omega arith) (omega arith) refl ∙ h .heads 4 (omega arith) in
+      let c₁ : get (put y count w) count ≡ w = get-put-same (P * S) y count w (sound-body P S y (h .sound) .sized) (omega arith) in
+      let t : get x allowance ≤ P + P * S = s .opened o .allowed in
+      sound-put y 3 w (omega arith) (h .sound) (open-head P S (put y count w) o₁ (omega arith) (omega arith))
+
+  pub trace-sound : (x : Image) (p : ℕ) → p < P → get x phase ≡ 1 → get x count ≢ get x allowance → SoundAt P S x → SoundAt P S (traceOne S p x)
+  unfolding traceOne
+  trace-sound x p l o c s =
+      let y : Image = outside S p (inside S p x) in
+      let h : Holds P S x y = holds-outside x p l o (inside S p x) (holds-inside x p l o s) in
+      let e : get y count ≡ get x count = h .heads 3 (omega arith) in
+      let f : get y allowance ≡ get x allowance = h .heads 4 (omega arith) in
+      let t : get x count ≤ get x allowance = s .opened o .counted in
+      finish-sound y p l (h .heads 2 (omega arith) ∙ o) (omega arith) (h .sound)
 
   -- CLOSE: where 16 finds nothing, what roots and objects refer to was marked and stays
   module _ (x : Image) (s : SoundAt P S x) (on : led P S x ≡ true) where
@@ -251,49 +238,40 @@ module _ (P S : ℕ) where
           opened = λ q. absurd (omega arith);
         }
 
-    kept-close : Kept P S x (closeUp P S x)
+    pub close-sound : SoundAt P S (closeUp P S x)
     unfolding after
-    kept-close = record { sound = sound-of P S after shape closed-body closed-head; words = close-head P S shape x linked }
+    close-sound = sound-of P S after shape closed-body closed-head
 
   -- EVERY ACT
-  pub act-kept : (x : Image) (a : Act) → SoundAt P S x → judge P S x a ≡ Accepted → Kept P S x (apply P S x a)
+  pub act-sound : (x : Image) (a : Act) → SoundAt P S x → judge P S x a ≡ Accepted → SoundAt P S (apply P S x a)
   unfolding judge apply
-  act-kept x (commit os) s j =
-      holds-kept
-      (commit-keeps P S (Holds P S x) (λ y o g h. holds-more P S h (holds-perform y o g (h .sound))) x 1 os (check-true _ _ _ _ j .1) (holds-self P S x s))
-  act-kept x opening s j =
+  act-sound x (commit os) s j =
+      commit-keeps P S (SoundAt P S) (λ y o g t. holds-perform y o g t .sound) x 1 os (check-true _ _ _ _ j .1) s
+  act-sound x opening s j =
       let n : get x phase ≢ 1 = eqb-false (get x phase) 1 (not-true _ (check-true _ _ _ _ j .0)) in
       let b = s .phase-bit in
-      kept-open x (omega arith) s
-  act-kept x (trace p) s j =
+      open-sound x (omega arith) s
+  act-sound x (trace p) s j =
       let a = check-true _ _ _ _ j in
       let b = check-true _ _ _ _ (a .1) in
       let c = check-true _ _ _ _ (b .1) in
       let d = check-true _ _ _ _ (c .1) in
-      kept-trace x p (ltb-true p P (b .0)) (eqb-true (get x phase) 1 (a .0)) (eqb-false (get x count) (get x allowance) (not-true _ (d .0))) s
-  act-kept x closing s j =
+      trace-sound x p (ltb-true p P (b .0)) (eqb-true (get x phase) 1 (a .0)) (eqb-false (get x count) (get x allowance) (not-true _ (d .0))) s
+  act-sound x closing s j =
       let a = check-true _ _ _ _ j in
       let b = check-true _ _ _ _ (a .1) in
       let c = check-true _ _ _ _ (b .1) in
-      kept-close x s (check-true _ _ _ _ (c .1) .0)
+      close-sound x s (check-true _ _ _ _ (c .1) .0)
 
-  pub act-sound : (x : Image) (a : Act) → SoundAt P S x → judge P S x a ≡ Accepted → SoundAt P S (apply P S x a)
-  act-sound x a s j = act-kept x a s j .sound
+  -- words 0 and 1 stay
+  act-words : (x : Image) (a : Act) (h : ℕ) → h < 2 → SoundAt P S x → judge P S x a ≡ Accepted → get (apply P S x a) (head h) ≡ get x (head h)
+  act-words x a h l s j = made-heading (P * S) S x (apply P S x a) h l (made P S (sound-limits P S x s) x a j (sound-linked P S x s))
 
   pub act-partitions : (x : Image) (a : Act) → SoundAt P S x → judge P S x a ≡ Accepted → get (apply P S x a) partitions ≡ get x partitions
-  act-partitions x a s j = act-kept x a s j .words 0 (omega arith)
+  act-partitions x a s j = act-words x a 0 (omega arith) s j
 
   pub act-slots : (x : Image) (a : Act) → SoundAt P S x → judge P S x a ≡ Accepted → get (apply P S x a) slots ≡ get x slots
-  act-slots x a s j = act-kept x a s j .words 1 (omega arith)
-
--- and so a history
-module _ (P S : ℕ) (x : Image) (s : SoundAt P S x) where
-  pub run-kept : {acts : List Act} {y : Image} → Run P S x acts y → Kept P S x y
-  run-kept still = kept-self P S s
-  run-kept (acted {y = y} a r j) =
-      let k = run-kept r in
-      let m = act-kept P S y a (k .sound) j in
-      record { sound = m .sound; words = λ h l. m .words h l ∙ k .words h l }
+  act-slots x a s j = act-words x a 1 (omega arith) s j
 
 -- and so the test, with P and S as words 0 and 1
 pub act-passes : (x : Image) (a : Act) → isSound x ≡ true → judge (get x partitions) (get x slots) x a ≡ Accepted
@@ -301,9 +279,25 @@ pub act-passes : (x : Image) (a : Act) → isSound x ≡ true → judge (get x p
 act-passes x a e j =
     let P : ℕ = get x partitions in
     let S : ℕ = get x slots in
-    let k : Kept P S x (apply P S x a) = act-kept P S x a (sound-true x e) j in
-    sound-back (apply P S x a)
-    (rw (k .words 0 (omega arith), k .words 1 (omega arith)) (k .sound))
+    let s : Sound x = sound-true x e in
+    sound-back (apply P S x a) (rw (act-partitions P S x a s j, act-slots P S x a s j) (act-sound P S x a s j))
+
+-- A history from a sound image: y is sound and has x's words 0 and 1
+pub record Kept (P S : ℕ) (x y : Image) : Type 0 where
+  pub sound : SoundAt P S y
+  pub partitions-same : get y partitions ≡ get x partitions
+  pub slots-same : get y slots ≡ get x slots
+
+module _ (P S : ℕ) (x : Image) (s : SoundAt P S x) where
+  pub run-kept : {acts : List Act} {y : Image} → Run P S x acts y → Kept P S x y
+  run-kept still = record { sound = s; partitions-same = refl; slots-same = refl }
+  run-kept (acted {y = y} a r j) =
+      let k = run-kept r in
+      record {
+        sound = act-sound P S y a (k .sound) j;
+        partitions-same = act-partitions P S y a (k .sound) j ∙ k .partitions-same;
+        slots-same = act-slots P S y a (k .sound) j ∙ k .slots-same;
+      }
 
 -- FORMAT leaves a sound image
 module _ (P S : ℕ) where
@@ -362,8 +356,8 @@ module _ (P S : ℕ) where
   pub reached-passes : inLimits P S ≡ true → {acts : List Act} {y : Image} → Run P S (blank P S) acts y → isSound y ≡ true
   reached-passes e {y = y} r =
       let k : Kept P S (blank P S) y = run-kept P S (blank P S) (blank-sound e) r in
-      let p : get y partitions ≡ P = k .words 0 (omega arith) ∙ blank-partitions P S in
-      let q : get y slots ≡ S = k .words 1 (omega arith) ∙ blank-slots P S in
+      let p : get y partitions ≡ P = k .partitions-same ∙ blank-partitions P S in
+      let q : get y slots ≡ S = k .slots-same ∙ blank-slots P S in
       sound-back y (rw (p, q) (k .sound))
 
 -- zeros, which a refused recovery leaves, are no sound image
