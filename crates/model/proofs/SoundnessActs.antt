@@ -10,7 +10,7 @@ use native.Mathlib.Decide.{ℕ-discrete}
 use lib.Dec.{eqb}
 use lib.ListN.{replicate}
 use borrow.Author.Tests.{eqb-true, eqb-false, not-true, ltb-true}
-use Rattle.loops.specs.Loop.{every, tally}
+use Rattle.loops.specs.Loop.{tally}
 use Rattle.loops.proofs.Loops.{each-keeps, tally-le}
 use Rattle.kinds.specs.Names.{radix, mostPartitions, wordOf}
 use Rattle.kinds.specs.declared.Name.{Name}
