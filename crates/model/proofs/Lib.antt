@@ -1,4 +1,7 @@
 pub mod Keys
+pub mod Soundness
+pub mod SoundnessMoves
+pub mod SoundnessActs
 pub mod Places
 pub mod Spreading
 pub mod Moves
