@@ -2,44 +2,23 @@
 -- Assumes nothing.
 use Prim.Native.Nat.{ℕ, _+_, _*_, _≤_, _<_}
 use mathlib.Core.Path.{_≡_, refl, ap, _∙_}
-use mathlib.Core.Bool.{Bool, true, false, cond}
 use mathlib.Core.List.{List}
 use native.Mathlib.Omega.{arith}
 use Rattle.loops.proofs.Tests.{clash}
-use Rattle.kinds.specs.Names.{wordOf}
-use Rattle.kinds.specs.declared.Target.{Target}
 use Rattle.kinds.specs.declared.Operation.{Operation}
-use Rattle.model.specs.Image.{Image, Key, head, flag, state, payload, count, allowance, get, put, Holder, a-root, a-field}
-use Rattle.model.specs.Acts.{Act, commit, opening, closing, trace, isOpen, markWord, store, born, perform, inside, outside, finish, traceOne, apply}
+use Rattle.model.specs.Image.{Image, head, flag, count, allowance, get, put}
+use Rattle.model.specs.Acts.{Act, commit, opening, closing, trace, perform, inside, outside, finish, traceOne, apply}
 use Rattle.model.specs.Judge.{judge}
 use Rattle.model.specs.History.{Run, still, acted, traces, Unclosed, unrooted}
-use Rattle.model.proofs.Keys.{in-fits, get-put-apart, sized-put, get-put-same, refer-apart}
-use Rattle.model.proofs.Places.{Shape, slot-in}
-use Rattle.model.proofs.Moves.{holder-in, holder-head, Phase, open-true}
-use Rattle.model.proofs.Tracing.{mark-read, MoreMarks, more-inside, more-outside, phase-trace}
-use Rattle.model.proofs.Committing.{check-true, May, Good, good-new, good-set, good-val, good-root, commit-keeps, target-used, mark-word-keeps, Shut, phase-perform}
-use Rattle.model.proofs.Opening.{open-count, phase-open, open-allows}
+use Rattle.model.proofs.Keys.{get-put-apart, sized-put, get-put-same}
+use Rattle.model.proofs.Places.{Shape}
+use Rattle.model.proofs.Moves.{Phase, open-true}
+use Rattle.model.proofs.Tracing.{MoreMarks, more-inside, more-outside, phase-trace}
+use Rattle.model.proofs.Committing.{check-true, Good, commit-keeps, phase-perform, perform-head}
+use Rattle.model.proofs.Opening.{Shut, open-count, phase-open, open-allows}
 use Rattle.model.proofs.Reaching.{traced-is, opened-is}
 
 module _ (P S : ℕ) (shape : Shape P S) where
-  -- operations leave the heads
-  store-head : (x : Image) (κ : Key) (t : Target) (h : ℕ) → h < 5 → Holder (P * S) κ → May P S x t → get (store S x κ t) (head h) ≡ get x (head h)
-  unfolding store
-  store-head x κ t h l g m = refer-apart S _ κ _ (head h) (in-fits (P * S) κ (holder-in g)) l (holder-head g h) ∙ go (isOpen x)
-    where
-      go : (b : Bool) → get (cond b (markWord S x (wordOf t)) x) (head h) ≡ get x (head h)
-      go true =
-          mark-word-keeps P S shape (λ y. get y (head h) ≡ get x (head h)) x (wordOf t)
-          (λ ne. mark-read P S shape x _ (head h) (target-used P S shape x t m ne .0) l refl refl) (λ e. refl)
-      go false = refl
-
-  perform-head : (x : Image) (o : Operation) (h : ℕ) → h < 5 → Good P S x o → get (perform S x o) (head h) ≡ get x (head h)
-  unfolding perform born
-  perform-head x _ h l (good-new lp ls e) = get-put-apart _ (payload _) _ (head h) tt l refl ∙ get-put-apart x (state _) _ (head h) tt l refl
-  perform-head x _ h l (good-set lp ls lk u m) = store-head x _ _ h l (a-field (slot-in P S (shape .some-slot) _ _ lp ls) lk) m
-  perform-head x _ h l (good-val lp ls u) = get-put-apart x (payload _) _ (head h) tt l refl
-  perform-head x _ h l (good-root lr m) = store-head x _ _ h l (a-root lr) m
-
   -- in a phase: the count, and the allowance that was set at its opening
   pub record Counted (c al : ℕ) (x : Image) : Type 0 where
     pub phase : Phase P S x
@@ -50,8 +29,8 @@ module _ (P S : ℕ) (shape : Shape P S) where
   counted-perform z o g q =
       record {
         phase = phase-perform P S shape z o g (q .phase);
-        counted = perform-head z o 3 (omega arith) g ∙ q .counted;
-        allowed = perform-head z o 4 (omega arith) g ∙ q .allowed;
+        counted = perform-head P S shape z o 3 (omega arith) g ∙ q .counted;
+        allowed = perform-head P S shape z o 4 (omega arith) g ∙ q .allowed;
       }
 
   counted-trace : (x : Image) (p c al : ℕ) → p < P → get x (flag p) ≡ 0 → Counted c al x → Counted (c + 1) al (traceOne S p x)

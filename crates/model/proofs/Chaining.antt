@@ -26,8 +26,8 @@ use Rattle.model.proofs.Keys.{Fits, same, get-put-apart}
 use Rattle.model.proofs.Places.{Shape, slot-in, word-none, place-word}
 use Rattle.model.proofs.Moves.{Linked, Phase, open-true, phase-mark, phase-payload, phase-born, refer-state, refer-read}
 use Rattle.model.proofs.Tracing.{mark-read, mark-linked, trace-marks, phase-trace}
-use Rattle.model.proofs.Committing.{check-true, then-true, May, none, some, Good, good-new, good-set, good-val, good-root, good, at-field, no-field, target-used, mark-word-keeps, Shut, store-open, phase-store}
-use Rattle.model.proofs.Opening.{phase-open, open-marks, open-field}
+use Rattle.model.proofs.Committing.{check-true, then-true, May, none, some, Good, good-new, good-set, good-val, good-root, good, at-field, no-field, target-used, mark-word-keeps, store-open, phase-store}
+use Rattle.model.proofs.Opening.{Shut, phase-open, open-marks, open-field}
 use Rattle.model.proofs.Closing.{the-payload, the-field, led-leads, close-state, close-kept}
 use Rattle.model.proofs.Reaching.{traced-is, closed-is, opened-is}
 

@@ -19,7 +19,6 @@ use Rattle.model.specs.Judge.{leadsOn, led}
 use Rattle.model.proofs.Keys.{Fits, Sized, same, touches, get-put-apart, sized-put, get-put-same, release-apart, sized-release, release-same}
 use Rattle.model.proofs.Places.{Shape}
 use Rattle.model.proofs.Moves.{Linked, unclean-other, sized-unclean, unclean-flag}
-use Rattle.model.proofs.Committing.{Shut}
 
 -- what a slot holds: its payload and its fields
 pub data Content (i : ℕ) : Key → Type 0 where
@@ -241,43 +240,3 @@ module _ (P S : ℕ) (shape : Shape P S) (x : Image) (w : Linked P S x) where
   close-head h l =
       shut-other _ (head h) (omega arith) (λ p. refl) (λ c m. ne-eqb c h (λ e. omega arith)) ∙
       swept-away (P * S) S x (P * S) (head h) (λ i m. record { fits = omega arith; state = refl; payload = refl; fields = λ k. refl })
-
-  -- where 16 finds nothing, the heap is shut again
-  pub shut-close : led P S x ≡ true → Shut P S shape (closeUp P S x)
-  shut-close led-on =
-      record {
-        linked =
-            record {
-              size = close-size;
-              states = λ i l. let e = close-state i l in let b = w .states i l in omega arith;
-              refs = refs;
-              free = λ i k l m e. free i k l m e (ℕ-discrete (get x (state i)) 1);
-            };
-        shut = close-phase;
-        plain = λ i l e. let c = close-state i l in let b = w .states i l in omega arith;
-      }
-    where
-      free : (i k : ℕ) → i < P * S → k < 4 → get (closeUp P S x) (state i) ≡ 0 → Dec (get x (state i) ≡ 1) → get (closeUp P S x) (field i k) ≡ 0
-      free i k l m e (yes q) = close-freed (the-field m) l q
-      free i k l m e (no q) = let c = close-state i l in close-kept (the-field m) l q ∙ w .free i k l m (omega arith)
-
-      on : (κ : Key) (h : Holder (P * S) κ) → Leading (P * S) x κ h → get (closeUp P S x) κ ≡ get x κ → get (closeUp P S x) κ ≢ 0
-          → (placeOf S (get (closeUp P S x) κ) < P * S) × (get (closeUp P S x) (state (placeOf S (get (closeUp P S x) κ))) ≢ 0)
-      on κ h v e ne =
-          let ne' : get x κ ≢ 0 = λ q. ne (e ∙ q) in
-          let l = w .refs κ h ne' .0 in
-          let two = led-leads P S x led-on κ h v ne' in
-          let c = close-state _ l in
-          rw e (l, λ z. omega arith)
-
-      refs : (κ : Key) → Holder (P * S) κ → get (closeUp P S x) κ ≢ 0 → (placeOf S (get (closeUp P S x) κ) < P * S) × (get (closeUp P S x) (state (placeOf S (get (closeUp P S x) κ))) ≢ 0)
-      refs κ (a-root l) ne = on κ (a-root l) tt (close-root _ l) ne
-      refs κ (a-field {j = i} {k = k} l m) ne = go (ℕ-discrete (get x (state i)) 1)
-        where
-          go : Dec (get x (state i) ≡ 1) → (placeOf S (get (closeUp P S x) (field i k)) < P * S) × (get (closeUp P S x) (state (placeOf S (get (closeUp P S x) (field i k)))) ≢ 0)
-          go (yes q) = absurd (ne (close-freed (the-field m) l q))
-          go (no q) =
-              let e = close-kept (the-field m) l q in
-              let busy : get x (state i) ≢ 0 = λ z. ne (e ∙ w .free i k l m z) in
-              let b = w .states i l in
-              on (field i k) (a-field l m) (omega arith) e ne

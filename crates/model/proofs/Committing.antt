@@ -1,10 +1,10 @@
--- An accepted operation keeps a phase, and a shut heap.
+-- Accepted operations: what they may rely on, and that they keep a phase and its head.
 -- Assumes nothing.
 use Prim.Native.Nat.{ℕ, _+_, _*_, _<_}
 use mathlib.Core.Path.{_≡_, refl, sym, _∙_, subst}
 use mathlib.Core.Bool.{Bool, true, false, not, cond}
 use mathlib.Core.List.{List, [], _∷_}
-use mathlib.Core.Logic.{_≢_, _⊎_, inl, inr, ⊎-elim}
+use mathlib.Core.Logic.{_≢_}
 use native.Mathlib.Omega.{arith}
 use native.Mathlib.Decide.{ℕ-discrete}
 use lib.Dec.{eqb, ltb}
@@ -19,12 +19,12 @@ use Rattle.kinds.specs.declared.Operation.{Operation}
 use Rattle.kinds.specs.declared.Operation.the-variants.{New, Set, Val, Root}
 use Rattle.kinds.specs.declared.Verdict.{Verdict}
 use Rattle.kinds.specs.declared.Verdict.the-variants.{Accepted, Refused}
-use Rattle.model.specs.Image.{Image, Key, root, state, payload, field, phase, anchors, get, put, place, placeOf, refer, Holder, a-root, a-field}
+use Rattle.model.specs.Image.{Image, Key, head, root, state, payload, field, anchors, get, place, placeOf, refer, Holder, a-root, a-field}
 use Rattle.model.specs.Acts.{used, isOpen, mark, markWord, store, born, perform, performAll}
 use Rattle.model.specs.Judge.{check, andThen, inHeap, targetInHeap, targetUsed, judgeOp, judgeOps}
-use Rattle.model.proofs.Keys.{Sized, in-fits, get-put-apart, sized-put, get-put-same}
+use Rattle.model.proofs.Keys.{in-fits, get-put-apart, refer-apart}
 use Rattle.model.proofs.Places.{Shape, slot-in, word-none, place-word}
-use Rattle.model.proofs.Moves.{holder-in, Linked, a-payload, plain-holder, state-holder, Phase, grow-linked, up-linked, up-plain, open-true, phase-mark, phase-payload, phase-born, refer-state, refer-head, linked-refer, phase-refer}
+use Rattle.model.proofs.Moves.{holder-in, Linked, holder-head, Phase, open-true, phase-mark, phase-payload, phase-born, phase-refer}
 use Rattle.model.proofs.Tracing.{mark-read, mark-marks}
 
 pub check-true : (b : Bool) (n e : ℕ) (v : Verdict) → check b n e v ≡ Accepted → (b ≡ true) × (v ≡ Accepted)
@@ -125,15 +125,6 @@ module _ (P S : ℕ) (shape : Shape P S) where
       go true e = k (eqb-true _ _ e)
       go false e = h (eqb-false _ _ e)
 
-  -- a heap between phases
-  pub record Shut (x : Image) : Type 0 where
-    pub linked : Linked P S x
-    pub shut : get x phase ≡ 0
-    pub plain : (i : ℕ) → i < P * S → get x (state i) ≢ 2
-
-  pub shut-false : (x : Image) → Shut x → isOpen x ≡ false
-  shut-false x sh = ne-eqb _ _ (λ e. let z : _≡_ {A = ℕ} 0 1 = sym (sh .shut) ∙ e in omega arith)
-
   -- in a phase
   pub store-open : (x : Image) (κ : Key) (t : Target) → Phase P S x → refer S (markWord S x (wordOf t)) κ (wordOf t) ≡ store S x κ t
   unfolding store
@@ -162,55 +153,6 @@ module _ (P S : ℕ) (shape : Shape P S) where
       let s = stored x t m ph in
       subst (Phase P S) (store-open x κ t ph) (phase-refer P S shape _ κ (wordOf t) h (s .phase .linked .size) (λ j k e. s .used j (u j k e)) (s .marked) (s .phase))
 
-  shut-store : (x : Image) (κ : Key) (t : Target) → Holder (P * S) κ → ((i k : ℕ) → κ ≡ field i k → get x (state i) ≢ 0) → May P S x t → Shut x → Shut (store S x κ t)
-  unfolding store
-  shut-store x κ t h u m sh =
-      rw (shut-false x sh)
-      (record {
-        linked = linked-refer P S shape x κ (wordOf t) h (sh .linked .size) u (target-used x t m) (sh .linked);
-        shut = refer-head P S shape x κ (wordOf t) h (sh .linked .size) 2 (omega arith) ∙ sh .shut;
-        plain = λ i l. rw (refer-state P S shape x κ (wordOf t) h (sh .linked .size) i) (sh .plain i l);
-      })
-
-  -- a put that keeps a shut heap: of a state to 1, or of a payload
-  shut-born : (x : Image) (i v : ℕ) → i < P * S → Shut x → Shut (born x i v)
-  unfolding born
-  shut-born x i v l sh =
-      rw (shut-false x sh)
-      (record {
-        linked =
-            grow-linked P S shape x _
-            (record {
-              size = sized-put _ _ _ _ (sized-put _ _ _ _ z);
-              states = λ j m. ⊎-elim (λ q. inl q) (λ q. inr (λ w. omega arith, omega arith)) (go j (ℕ-discrete i j));
-              holders = hd;
-            })
-            (sh .linked);
-        shut = get-put-apart y (payload i) v phase tt (omega arith) refl ∙ get-put-apart x (state i) 1 phase tt (omega arith) refl ∙ sh .shut;
-        plain = λ j m e. ⊎-elim (λ q. sh .plain j m (sym q ∙ e)) (λ q. omega arith) (go j (ℕ-discrete i j));
-      })
-    where
-      z : Sized (P * S) x
-      z = sh .linked .size
-
-      y : Image
-      y = put x (state i) 1
-
-      go : (j : ℕ) → Dec (i ≡ j) → (get (put y (payload i) v) (state j) ≡ get x (state j)) ⊎ (get (put y (payload i) v) (state j) ≡ 1)
-      go j (yes e) = inr (get-put-apart y (payload i) v (state j) tt tt refl ∙ rw (← e) (get-put-same (P * S) x (state i) 1 z l))
-      go j (no e) = inl (get-put-apart y (payload i) v (state j) tt tt refl ∙ get-put-apart x (state i) 1 (state j) tt tt (ne-eqb i j e))
-
-      hd : (κ : Key) → Holder (P * S) κ → get (put y (payload i) v) κ ≡ get x κ
-      hd κ h = let f = in-fits (P * S) κ (holder-in h) in get-put-apart y (payload i) v κ tt f (plain-holder (a-payload l) h) ∙ get-put-apart x (state i) 1 κ tt f (state-holder h i)
-
-  shut-payload : (x : Image) (i v : ℕ) → i < P * S → Shut x → Shut (put x (payload i) v)
-  shut-payload x i v l sh =
-      record {
-        linked = up-linked P S shape x _ (up-plain P S shape x (payload i) v (a-payload l) (sh .linked .size)) (sh .linked);
-        shut = get-put-apart x (payload i) v phase tt (omega arith) refl ∙ sh .shut;
-        plain = λ j m. rw (get-put-apart x (payload i) v (state j) tt tt refl) (sh .plain j m);
-      }
-
   pub phase-perform : (x : Image) (o : Operation) → Good P S x o → Phase P S x → Phase P S (perform S x o)
   unfolding perform
   phase-perform x _ (good-new lp ls e) ph = phase-born P S shape x _ _ (slot-in P S (shape .some-slot) _ _ lp ls) e ph
@@ -218,9 +160,20 @@ module _ (P S : ℕ) (shape : Shape P S) where
   phase-perform x _ (good-val lp ls u) ph = phase-payload P S shape x _ _ (slot-in P S (shape .some-slot) _ _ lp ls) ph
   phase-perform x _ (good-root lr m) ph = phase-store x _ _ (a-root lr) (no-field (λ j. get x (state j) ≢ 0)) m ph
 
-  pub shut-perform : (x : Image) (o : Operation) → Good P S x o → Shut x → Shut (perform S x o)
-  unfolding perform
-  shut-perform x _ (good-new lp ls e) sh = shut-born x _ _ (slot-in P S (shape .some-slot) _ _ lp ls) sh
-  shut-perform x _ (good-set lp ls lk u m) sh = shut-store x _ _ (a-field (slot-in P S (shape .some-slot) _ _ lp ls) lk) (at-field (λ j. get x (state j) ≢ 0) u) m sh
-  shut-perform x _ (good-val lp ls u) sh = shut-payload x _ _ (slot-in P S (shape .some-slot) _ _ lp ls) sh
-  shut-perform x _ (good-root lr m) sh = shut-store x _ _ (a-root lr) (no-field (λ j. get x (state j) ≢ 0)) m sh
+  -- operations leave the heads
+  store-head : (x : Image) (κ : Key) (t : Target) (h : ℕ) → h < 5 → Holder (P * S) κ → May P S x t → get (store S x κ t) (head h) ≡ get x (head h)
+  unfolding store
+  store-head x κ t h l g m = refer-apart S _ κ _ (head h) (in-fits (P * S) κ (holder-in g)) l (holder-head g h) ∙ go (isOpen x)
+    where
+      go : (b : Bool) → get (cond b (markWord S x (wordOf t)) x) (head h) ≡ get x (head h)
+      go true =
+          mark-word-keeps (λ y. get y (head h) ≡ get x (head h)) x (wordOf t)
+          (λ ne. mark-read P S shape x _ (head h) (target-used x t m ne .0) l refl refl) (λ e. refl)
+      go false = refl
+
+  pub perform-head : (x : Image) (o : Operation) (h : ℕ) → h < 5 → Good P S x o → get (perform S x o) (head h) ≡ get x (head h)
+  unfolding perform born
+  perform-head x _ h l (good-new lp ls e) = get-put-apart _ (payload _) _ (head h) tt l refl ∙ get-put-apart x (state _) _ (head h) tt l refl
+  perform-head x _ h l (good-set lp ls lk u m) = store-head x _ _ h l (a-field (slot-in P S (shape .some-slot) _ _ lp ls) lk) m
+  perform-head x _ h l (good-val lp ls u) = get-put-apart x (payload _) _ (head h) tt l refl
+  perform-head x _ h l (good-root lr m) = store-head x _ _ h l (a-root lr) m

@@ -1,7 +1,4 @@
 pub mod Keys
-pub mod Soundness
-pub mod SoundnessMoves
-pub mod SoundnessActs
 pub mod Places
 pub mod Spreading
 pub mod Moves
@@ -10,6 +7,9 @@ pub mod Committing
 pub mod Opening
 pub mod Closing
 pub mod Making
+pub mod Soundness
+pub mod SoundnessMoves
+pub mod SoundnessActs
 pub mod Reaching
 pub mod Refusing
 pub mod Bound
@@ -17,4 +17,5 @@ pub mod Chaining
 pub mod Bits
 pub mod Asking
 pub mod Quiet
+pub mod Demand
 pub mod Table

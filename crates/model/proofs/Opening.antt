@@ -19,7 +19,7 @@ use Rattle.model.proofs.Keys.{Fits, same, in-fits, get-put-apart, sized
 use Rattle.model.proofs.Places.{Shape, parts}
 use Rattle.model.proofs.Moves.{holder-in, Linked, a-head, state-holder, flag-holder, head-holder, unclean-other, unclean-flag, Live, Phase, up-linked, up-plain, up-unclean}
 use Rattle.model.proofs.Tracing.{mark-read, mark-linked, mark-marks, mark-stays, mark-flag}
-use Rattle.model.proofs.Committing.{mark-word-keeps, Shut}
+use Rattle.model.proofs.Committing.{mark-word-keeps}
 
 -- a state of 0 or 1 is in use where it is 1
 used-is : (n : ℕ) → n ≤ 2 → n ≢ 2 → eqb n 1 ≡ not (eqb n 0)
@@ -30,6 +30,11 @@ used-is n l ne = go (ℕ-discrete n 0)
     go (no e) = let one : n ≡ 1 = omega arith in rw one
 
 module _ (P S : ℕ) (shape : Shape P S) where
+  -- a heap between phases: nothing is marked
+  pub record Shut (x : Image) : Type 0 where
+    pub linked : Linked P S x
+    pub plain : (i : ℕ) → i < P * S → get x (state i) ≢ 2
+
   -- while the roots are marked: x is the heap before
   record Ready (x y : Image) : Type 0 where
     linked : Linked P S y
@@ -170,7 +175,7 @@ module _ (P S : ℕ) (shape : Shape P S) where
           absurd (v .1 (open-other x (flag (partOf S i)) (omega arith) refl refl ∙ g .flags (partOf S i) q))
 
   -- the allowance is P + W
-  pub open-allows : (x : Image) → Shut P S shape x → get (openUp P S x) allowance ≡ P + unrooted P S x
+  pub open-allows : (x : Image) → Shut x → get (openUp P S x) allowance ≡ P + unrooted P S x
   unfolding unmarked unrooted
   open-allows x sh = open-allowance x (sh .linked) ∙ ap (λ (n : ℕ). P + n) (tally-same (P * S) _ _ (λ i l. go i l (every anchors (λ r. not (names S x (root r) i))) refl))
     where
@@ -198,7 +203,7 @@ module _ (P S : ℕ) (shape : Shape P S) where
           rw (e, m) (sym (both-false (used x i)))
 
   -- what opening marks, and leaves
-  pub open-marks : (x : Image) → Shut P S shape x → (i : ℕ) → i < P * S → get (openUp P S x) (state i) ≡ 2 → (r : ℕ) × (r < anchors) × Names S x (root r) i
+  pub open-marks : (x : Image) → Shut x → (i : ℕ) → i < P * S → get (openUp P S x) (state i) ≡ 2 → (r : ℕ) × (r < anchors) × Names S x (root r) i
   open-marks x sh i l e =
       let q = open-other x (state i) tt refl refl in
       ⊎-elim (λ s. absurd (sh .plain i l (sym s ∙ sym q ∙ e))) (λ s. s .1) (ready-roots x (sh .linked) .states i)
