@@ -25,10 +25,6 @@ pub data Content (i : ℕ) : Key → Type 0 where
   the-payload : Content i (payload i)
   the-field : {k : ℕ} → k < 4 → Content i (field i k)
 
-pub content-fits : {i : ℕ} {μ : Key} → Content i μ → Fits μ
-content-fits the-payload = tt
-content-fits (the-field l) = l
-
 -- μ is no word of slot i
 pub record Away (i : ℕ) (μ : Key) : Type 0 where
   pub fits : Fits μ
@@ -234,9 +230,3 @@ module _ (P S : ℕ) (shape : Shape P S) (x : Image) (w : Linked P S x) where
   close-root r l =
       shut-other _ (root r) l (λ p. refl) (λ h m. refl) ∙
       swept-away (P * S) S x (P * S) (root r) (λ i m. record { fits = l; state = refl; payload = refl; fields = λ k. refl })
-
-  pub close-head : (h : ℕ) → h < 2 → get (closeUp P S x) (head h) ≡ get x (head h)
-  unfolding closeUp
-  close-head h l =
-      shut-other _ (head h) (omega arith) (λ p. refl) (λ c m. ne-eqb c h (λ e. omega arith)) ∙
-      swept-away (P * S) S x (P * S) (head h) (λ i m. record { fits = omega arith; state = refl; payload = refl; fields = λ k. refl })

@@ -18,4 +18,5 @@ pub mod Bits
 pub mod Asking
 pub mod Quiet
 pub mod Demand
+pub mod Answers
 pub mod Table

@@ -2,7 +2,6 @@
 -- Assumes nothing.
 use Prim.Native.Nat.{ℕ, _+_, _*_, _-_, _/_, _%_, _≤_, _<_}
 use mathlib.Core.Path.{_≡_, refl, _∙_}
-use mathlib.Core.Logic.{_≢_}
 use native.Mathlib.Omega.{arith}
 use native.Mathlib.Nat.{div-lt-iff-lt-mul, mul-add-div-right, div-eq-of-lt, div-add-mod', mod-lt, mul-le-mul-right, add-zero}
 use Rattle.kinds.specs.Names.{mostPartitions, mostSlots, radix, wordOf}
@@ -37,10 +36,6 @@ module _ (P S : ℕ) (some-slot : 0 < S) where
 pub word-none : wordOf Nothing ≡ 0
 unfolding wordOf
 word-none = refl
-
-pub word-some : (q : Name) → wordOf (Object q) ≢ 0
-unfolding wordOf
-word-some q e = omega arith
 
 pub place-word : (S : ℕ) (q : Name) → q .slot .0 < radix → placeOf S (wordOf (Object q)) ≡ place S q
 unfolding placeOf wordOf

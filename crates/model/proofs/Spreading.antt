@@ -91,6 +91,9 @@ module _ {X : Type 0} (has : X → ℕ → Bool) (add : X → ℕ → X) (edge :
     pub spread-grown : (x : X) → Ok x → Grown x (spread has add edge target at n K x)
     spread-grown x ok = spread-keeps (Grown x) (λ y j k l m a e g. grown-step x y j k l m e g) x (grown-self x ok)
 
+    pub holds-start : (x : X) → Ok x → (i : ℕ) → has x i ≡ true → has (spread has add edge target at n K x) i ≡ true
+    holds-start x ok i h = spread-grown x ok .more i h
+
     -- one pass adds the target of each edge of each place that was there
     module _ (x : X) (t : ℕ) where
       Got : X → Type 0
@@ -179,7 +182,7 @@ module _ {X : Type 0} (has : X → ℕ → Bool) (add : X → ℕ → X) (edge :
           rw (← g .targets (at j) k m) (rw (rests x ok) at (pass-adds y j k (g .ok) l m a (g .edges (at j) k m ∙ e)))
 
       pub complete : (x : X) (i : ℕ) → Ok x → Reach (λ v. has x v ≡ true) (Edge x) i → has (spread has add edge target at n K x) i ≡ true
-      complete x i ok (start h) = spread-grown x ok .more i h
+      complete x i ok (start h) = holds-start x ok i h
       complete x i ok (step {i = v} r e) =
           let a : has (spread has add edge target at n K x) (at (e .0)) ≡ true = rw (e .4) (complete x v ok r) in
           rw (← e .6) (closed x (e .0) (e .1) ok (e .2) (e .3) a (e .5))
