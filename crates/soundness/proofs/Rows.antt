@@ -1,4 +1,4 @@
--- The shape of an image as test and as record; and the row of states beside the row of all fields is the test of every slot.
+-- The shape of an image by what format judges; and the row of states beside the row of all fields is the test of every slot.
 -- Assumes nothing.
 use Prim.Native.Nat.{ℕ, _+_, _-_, _*_, _/_, _%_, _<_}
 use mathlib.Core.Path.{_≡_, refl, sym, ap, _∙_}
@@ -10,15 +10,17 @@ use lib.Dec.{eqb, leb}
 use lib.ListN.{length}
 use borrow.Author.Tests.{eqb-true, eq-eqb, ne-eqb, le-leb, leb-true}
 use Rattle.loops.specs.Loop.{both, every}
-use Rattle.loops.proofs.Tests.{both-true, both-so, is-false}
+use Rattle.loops.proofs.Tests.{both-true, both-so}
 use Rattle.loops.proofs.Loops.{every-true, every-so}
 use Rattle.kinds.specs.Names.{radix}
+use Rattle.kinds.specs.declared.Verdict.the-variants.{Accepted}
 use Rattle.model.specs.Image.{Image, Key, front, stride, state, payload, field, get, lengthOf, size, placeOf}
 use Rattle.model.specs.Acts.{used}
-use Rattle.model.specs.Judge.{inLimits}
+use Rattle.model.specs.Judge.{judgeFormat}
 use Rattle.model.specs.Sound.{refOk, slotOk, SoundAt, soundAt}
-use Rattle.model.proofs.Soundness.{Limits, limits-true, limits-back, range-back, SlotOk, slot-true, slot-back, ref-true, ref-back, ref-nothing, sound-limits}
-use Rattle.soundness.specs.Checks.{Shaped, shapedTo, stateOk, fieldOk, restOk}
+use Rattle.model.proofs.Soundness.{limits-back, range-back, SlotOk, slot-true, slot-back, ref-true, ref-back, ref-nothing, sound-limits}
+use Rattle.image.proofs.Formats.{format-so, format-true}
+use Rattle.soundness.specs.Checks.{Shaped, stateOk, fieldOk, restOk}
 
 -- two tests that pass together are the same
 same-test : (a b : Bool) → (a ≡ true → b ≡ true) → (b ≡ true → a ≡ true) → a ≡ b
@@ -29,18 +31,6 @@ same-test false false f g = refl
 both-both : (a b c : Bool) → both (both a b) c ≡ both a (both b c)
 both-both true b c = refl
 both-both false b c = refl
-
-module _ (P S n : ℕ) where
-  pub shaped-back : Limits P S → n ≡ front + stride * (P * S) → true ≡ shapedTo P S n
-  unfolding shapedTo size
-  shaped-back h e = rw (limits-back P S h, eq-eqb n (front + stride * (P * S)) e)
-
-  pub shaped-true : shapedTo P S n ≡ true → Limits P S × (n ≡ front + stride * (P * S))
-  unfolding shapedTo size
-  shaped-true e = let b = both-true (inLimits P S) (eqb n (front + stride * (P * S))) e in (limits-true P S (b .0), eqb-true n (front + stride * (P * S)) (b .1))
-
-  pub shaped-not : (Limits P S → n ≢ front + stride * (P * S)) → false ≡ shapedTo P S n
-  shaped-not h = sym (is-false (shapedTo P S n) (λ e. let t = shaped-true e in h (t .0) (t .1)))
 
 module _ (P S : ℕ) (x : Image) where
   -- a reference word whose place is in range, at any key
@@ -110,15 +100,16 @@ module _ (P S : ℕ) (x : Image) where
           (slot-of j (every-true (P * S) (stateOk x) (b .0) j l)
           (λ k m. sym (field-at j k m) ∙ every-true (4 * (P * S)) (fieldOk P S x) (b .1) (j * 4 + k) (omega arith))))
 
-  -- the shape of an image, from the test and from soundness
-  pub shaped-image : shapedTo P S (length x) ≡ true → Shaped P S x
+  -- the shape of an image is what format judges
+  pub shaped-image : judgeFormat P S (length x) ≡ Accepted → Shaped P S x
+  unfolding size
   shaped-image e =
-      let t = shaped-true P S (length x) e in
+      let t = format-true P S (length x) e in
       record { some-partition = t .0 .some-partition; small = t .0 .partitions-most; some-slot = t .0 .some-slot; wide = t .0 .slots-most; long = t .1 }
 
-  pub sound-shaped : SoundAt P S x → true ≡ shapedTo P S (length x)
-  unfolding lengthOf size
-  sound-shaped h = shaped-back P S (length x) (sound-limits P S x h) (h .length-agrees)
+  pub sound-format : SoundAt P S x → Accepted ≡ judgeFormat P S (length x)
+  unfolding lengthOf
+  sound-format h = format-so P S (length x) (sound-limits P S x h) (h .length-agrees)
 
   pub sound-rest : Shaped P S x → soundAt P S x ≡ restOk P S x
   unfolding soundAt restOk lengthOf size

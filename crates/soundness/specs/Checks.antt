@@ -6,17 +6,13 @@ use lib.Dec.{eqb, leb}
 use lib.ListN.{length}
 use Rattle.loops.specs.Loop.{both, every}
 use Rattle.kinds.specs.Names.{mostPartitions, mostSlots}
-use Rattle.model.specs.Image.{Image, front, stride, anchors, state, payload, field, phase, get, size}
+use Rattle.model.specs.Image.{Image, front, stride, anchors, state, payload, field, phase, get}
 use Rattle.model.specs.Acts.{used, isOpen}
-use Rattle.model.specs.Judge.{inLimits}
 use Rattle.model.specs.Sound.{refOk, rootOk, flagOk, flagDown, unmarkedAt, openOk, shutOk}
 use Rattle.soundness.specs.declared.Check.{Check}
 use Rattle.soundness.specs.declared.Check.the-variants.{Slot, Field, Root, Flag, Down, Unmarked}
 
--- P is 1 to 16, S is 1 to 64, and the length agrees with them: as a test, and of an image
-unfoldable pub shapedTo : ℕ → ℕ → ℕ → Bool
-shapedTo P S n = both (inLimits P S) (eqb n (size P S))
-
+-- P is 1 to 16, S is 1 to 64, and the length agrees with them
 pub record Shaped (P S : ℕ) (x : Image) : Type 0 where
   pub some-partition : 0 < P
   pub small : P ≤ mostPartitions

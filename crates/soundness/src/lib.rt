@@ -10,7 +10,7 @@ ghost use Rattle.loops.specs.Loop.{every};
 ghost use Rattle.kinds.specs.Names.{mostPartitions};
 ghost use Rattle.model.specs.Image.{Key, payload, addr, get};
 ghost use Rattle.model.specs.Sound.{refOk, flagOk, flagDown, unmarkedAt, openOk, shutOk, soundAt, isSound};
-ghost use Rattle.soundness.specs.Checks.{Shaped, shapedTo, stateOk, fieldOk, reach, testAt};
+ghost use Rattle.soundness.specs.Checks.{Shaped, stateOk, fieldOk, reach, testAt};
 
 // What is tested at every index: of a slot its state and payload, of all slots their fields, the roots, the flags, and with the phase
 // shut that no flag is up and nothing is marked.
@@ -21,29 +21,6 @@ pub enum Check {
     Flag,
     Down,
     Unmarked,
-}
-
-// P is 1 to 16, S is 1 to 64, and the length agrees with them.
-pub fn shaped(p: u32, s: u32, n: usize) -> bool
-    ensures { λ r. ⌜ r ≡ shapedTo p s n ⌝ }
-{
-    if p < 1 {
-        return false;
-    }
-    if kinds::Partition::LIMIT < p {
-        return false;
-    }
-    if s < 1 {
-        return false;
-    }
-    if kinds::Slot::LIMIT < s {
-        return false;
-    }
-    let m = p * s;
-    if n == image::FRONT + image::STRIDE * (m as usize) {
-        return true;
-    }
-    false
 }
 
 // A reference word is nothing or names a slot in use, whatever key it stands at.
@@ -255,9 +232,10 @@ pub fn sound(img: &[u32]) -> bool
     }
     let p = img[0];
     let s = img[1];
-    let ok = shaped(p, s, n);
-    if !ok {
-        return false;
+    // refusal 2 of format is the first test of soundness: P, S and the length
+    let v = image::judge_format(n, p, s);
+    match v {
+        kinds::Verdict::Accepted => sound_at(img, p as usize, s as usize),
+        kinds::Verdict::Refused(_) => false,
     }
-    sound_at(img, p as usize, s as usize)
 }
