@@ -4,9 +4,10 @@
 ghost use mathlib.Core.Path.{_≡_};
 ghost use mathlib.Core.Logic.{_≢_};
 ghost use Prim.Native.Nat.{_*_, _<_, _≤_};
-ghost use lib.ListN.{length};
+ghost use lib.ListN.{length, replicate};
 ghost use Rattle.kinds.specs.Names.{mostPartitions, mostSlots};
-ghost use Rattle.model.specs.Image.{root, state, field, addr, place, placeOf, partOf, refer, release};
+ghost use Rattle.model.specs.Image.{root, state, field, addr, lengthOf, size, blank, place, placeOf, partOf, refer, release};
+ghost use Rattle.model.specs.Judge.{judgeFormat};
 ghost use Rattle.model.specs.Acts.{mark, markWord};
 ghost use Rattle.image.specs.Within.{Within};
 
@@ -98,4 +99,47 @@ pub fn release_field(img: &mut [u32], s: usize, j: usize, k: usize)
     ensures { λ _. ⌜ now (img .exit) ≡ release s (now (img .entry)) (field j k) ⌝ }
 {
     img[FRONT + STRIDE * j + 2 + k] = 0;
+}
+
+// All words become 0.
+pub fn clear(img: &mut [u32])
+    ensures { λ _. ⌜ now (img .exit) ≡ replicate (length (now (img .entry))) 0 ⌝ }
+{
+    let mut i: usize = 0;
+    while i < img.len() {
+        img[i] = 0;
+        i += 1;
+    }
+}
+
+// Format: 2 unless P and S are in range and agree with the length.
+pub fn judge_format(len: usize, p: u32, s: u32) -> kinds::Verdict
+    ensures { λ r. ⌜ r ≡ judgeFormat p s len ⌝ }
+{
+    if p == 0 {
+        return kinds::Verdict::refuse(kinds::Refusal::SIZE, 0);
+    }
+    if p > kinds::Partition::LIMIT {
+        return kinds::Verdict::refuse(kinds::Refusal::SIZE, 0);
+    }
+    if s == 0 {
+        return kinds::Verdict::refuse(kinds::Refusal::SIZE, 0);
+    }
+    if s > kinds::Slot::LIMIT {
+        return kinds::Verdict::refuse(kinds::Refusal::SIZE, 0);
+    }
+    if len != FRONT + STRIDE * ((p * s) as usize) {
+        return kinds::Verdict::refuse(kinds::Refusal::SIZE, 0);
+    }
+    kinds::Verdict::Accepted
+}
+
+// The act format: P, S, phase shut, nothing else set.
+pub fn format(img: &mut [u32], p: u32, s: u32)
+    requires { ⌜ lengthOf (now img) ≡ size p s ⌝ }
+    ensures { λ _. ⌜ now (img .exit) ≡ blank p s ⌝ }
+{
+    clear(&mut *img);
+    img[0] = p;
+    img[1] = s;
 }
