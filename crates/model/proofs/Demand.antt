@@ -1,0 +1,62 @@
+-- Demand 3, whole, over histories from a formatting: however commits and traces are mixed, a phase ends within P + W traces, and its close keeps every object
+-- that a root leads to and frees every object that no chain leads to.
+-- Assumes nothing.
+use Prim.Native.Nat.{ℕ, _+_, _*_, _≤_, _<_}
+use mathlib.Core.Path.{_≡_}
+use mathlib.Core.Bool.{true}
+use mathlib.Core.List.{List, _++_}
+use mathlib.Core.Logic.{_≢_}
+use Rattle.loops.specs.Loop.{first}
+use Rattle.kinds.specs.Answers.{refuse}
+use Rattle.kinds.specs.declared.Verdict.the-variants.{Accepted}
+use Rattle.model.specs.Image.{Image, flag, state, count, get, blank}
+use Rattle.model.specs.Acts.{Act, opening, closing, trace, notClean, apply}
+use Rattle.model.specs.Judge.{inLimits, rooted, judge}
+use Rattle.model.specs.Sound.{isSound}
+use Rattle.model.specs.History.{Run, still, acted, traces, Unclosed, unrooted}
+use Rattle.model.specs.Chains.{Leads, ChainTo}
+use Rattle.model.proofs.Soundness.{limits-true}
+use Rattle.model.proofs.SoundnessActs.{reached-passes}
+use Rattle.model.proofs.Reaching.{is-shut, opened-is, reached}
+use Rattle.model.proofs.Refusing.{can-trace, can-close, never-15-16}
+use Rattle.model.proofs.Bound.{counts, at-most}
+use Rattle.model.proofs.Chaining.{Stays, close-keeps, close-frees}
+
+-- x is the heap at an accepted opening, after the history `earlier`; y is the heap in the phase, after the acts since
+pub record Demand-3 (P S : ℕ) (earlier : List Act) (x : Image) (acts : List Act) (y : Image) : Type 0 where
+  -- at most P + W traces, W being the objects in use that no root names at the opening; and word 3 is their number
+  pub bound : traces acts ≤ P + unrooted P S x
+  pub counted : get y count ≡ traces acts
+  -- no refusal stands in the way: not 1, 13 or 15 of a trace, nor 1, 10, 14 or 16 of a close
+  pub sound : isSound y ≡ true
+  pub traceable : (p : ℕ) → p < P → get y (flag p) ≡ 0 → judge P S y (trace p) ≡ Accepted
+  pub closable : notClean P y ≡ 0 → rooted y ≡ true → judge P S y closing ≡ Accepted
+  pub never : (a : Act) (e : ℕ) → (judge P S y a ≢ refuse 15 e) × (judge P S y a ≢ refuse 16 e)
+  -- what the close leaves
+  pub keeps : judge P S y closing ≡ Accepted → (j : ℕ) → Leads S y j → Stays y (apply P S y closing) j
+  pub frees : judge P S y closing ≡ Accepted → (j : ℕ) → j < P * S → (ChainTo S earlier x acts j → ⊥) → get (apply P S y closing) (state j) ≡ 0
+  pub sound-after : judge P S y closing ≡ Accepted → isSound (apply P S y closing) ≡ true
+
+run-append : {P S : ℕ} {x y z : Image} {first : List Act} (second : List Act) → Run P S x first y → Run P S y second z → Run P S x (second ++ first) z
+run-append _ r still = r
+run-append _ r (acted {acts = acts} a s j) = acted a (run-append acts r s) j
+
+pub demand-3 : (P S : ℕ) → inLimits P S ≡ true → (earlier : List Act) (x : Image) → Run P S (blank P S) earlier x → judge P S x opening ≡ Accepted
+    → (acts : List Act) (y : Image) → Run P S (apply P S x opening) acts y → Unclosed acts → Demand-3 P S earlier x acts y
+demand-3 P S limits earlier x r j acts y s u =
+    let shape = limits-true P S limits in
+    let sh = is-shut P S shape x (reached P S shape earlier x r .sound) (opened-is P S shape x j) in
+    let whole = run-append acts (acted opening r j) s in
+    let c = counts P S shape x sh acts y s u in
+    let w = c .phase .linked in
+    record {
+      bound = at-most P S shape x sh acts y s u;
+      counted = c .counted;
+      sound = reached-passes P S limits whole;
+      traceable = λ p l f. can-trace P S shape y p (c .phase) l f;
+      closable = λ e q. can-close P S shape y (c .phase) e q;
+      never = λ a e. never-15-16 P S shape y (reached P S shape _ y whole .heap) a e;
+      keeps = λ k i l. close-keeps P S shape y w k i l;
+      frees = λ k i l n. close-frees P S shape earlier x sh acts y s u i l n;
+      sound-after = λ k. reached-passes P S limits (acted closing whole k);
+    }

@@ -1,0 +1,54 @@
+-- With no operation in a phase, a chain is a chain of references at the opening: nothing that was done before the opening starts a chain.
+-- Assumes nothing.
+use Prim.Native.Nat.{ℕ, _≤_, _<_}
+use mathlib.Core.Path.{_≡_, refl, subst}
+use mathlib.Core.List.{List, [], _∷_}
+use mathlib.Core.Logic.{_⊎_, inl, inr, ⊎-elim}
+use native.Mathlib.Omega.{arith}
+use lib.ListN.{length}
+use Rattle.kinds.specs.declared.Operation.{Operation}
+use Rattle.model.specs.Image.{Image}
+use Rattle.model.specs.Spread.{start, step}
+use Rattle.model.specs.Acts.{Act, commit, opening, closing, trace}
+use Rattle.model.specs.Chains.{Leads, Step, op, opens, closes, traced, steps, Above, bare, more, Since, last, before, Chain, from-root, created, stored-field, stored-root, along-held, along-stored, toOpening, ChainTo}
+
+-- a history without commits
+abbrev pub Quiet : List Act → Type 0
+Quiet [] = Unit {0}
+Quiet (commit os ∷ acts) = ⊥
+Quiet (opening ∷ acts) = Quiet acts
+Quiet (trace p ∷ acts) = Quiet acts
+Quiet (closing ∷ acts) = Quiet acts
+
+-- what was taken since the opening stands above it
+above-length : {base h : List Step} → Above base h → length base ≤ length h
+above-length bare = omega arith
+above-length (more a) = let l = above-length a in omega arith
+
+since-length : {base h e : List Step} {s : Step} → Since base h s e → length base < length h
+since-length (last a) = let l = above-length a in omega arith
+since-length (before q) = let l = since-length q in omega arith
+
+-- it is the last step, or was taken before that
+since-cases : {base h e : List Step} {s : Step} → Since base h s e → (b : Step) (t : List Step) → h ≡ b ∷ t → (s ≡ b) ⊎ Since base t s e
+since-cases (last a) b t q = inl (cc)
+since-cases {base = base} {e = e} {s = s} (before {h = h} r) b t q = let d : h ≡ t = cc in inr (subst (λ (u : List Step). Since base u s e) d r)
+
+no-op : (base : List Step) (acts : List Act) → Quiet acts → (o : Operation) (e : List Step) → Since base (steps acts base) (op o) e → ⊥
+unfolding steps
+no-op base [] q o e s = let l = since-length s in omega arith
+no-op base (commit os ∷ acts) q o e s = q
+no-op base (opening ∷ acts) q o e s = ⊎-elim (λ d. let z : _≡_ {A = ℕ} 0 1 = cc in absurd (omega arith)) (no-op base acts q o e) (since-cases s opens (steps acts base) refl)
+no-op base (trace p ∷ acts) q o e s = ⊎-elim (λ d. let z : _≡_ {A = ℕ} 0 1 = cc in absurd (omega arith)) (no-op base acts q o e) (since-cases s (traced p) (steps acts base) refl)
+no-op base (closing ∷ acts) q o e s = ⊎-elim (λ d. let z : _≡_ {A = ℕ} 0 1 = cc in absurd (omega arith)) (no-op base acts q o e) (since-cases s closes (steps acts base) refl)
+
+held : (S : ℕ) (x : Image) (base : List Step) (Taken : Step → List Step → Type 0) (i b : ℕ) → ((o : Operation) (e : List Step) → Taken (op o) e → ⊥) → Chain S x base Taken i b → Leads S x i
+held S x base Taken i b never (from-root {r = r} l n) = start (r, l, n)
+held S x base Taken i b never (created t) = absurd (never _ _ t)
+held S x base Taken i b never (stored-field t) = absurd (never _ _ t)
+held S x base Taken i b never (stored-root t) = absurd (never _ _ t)
+held S x base Taken i b never (along-held {k = k} c l n) = step (held S x base Taken _ _ never c) (k, l, n)
+held S x base Taken i b never (along-stored c t) = absurd (never _ _ t)
+
+pub quiet : (S : ℕ) (earlier : List Act) (x : Image) (acts : List Act) → Quiet acts → (j : ℕ) → ChainTo S earlier x acts j → Leads S x j
+quiet S earlier x acts q j c = held S x (toOpening earlier) _ j _ (no-op (toOpening earlier) acts q) c

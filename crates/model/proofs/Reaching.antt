@@ -1,0 +1,89 @@
+-- Every heap that acts lead to from a formatting is shut, or in a phase whose invariants hold; and it is sound.
+-- Assumes nothing.
+use Prim.Native.Nat.{ℕ, _<_}
+use mathlib.Core.Path.{_≡_, _∙_}
+use mathlib.Core.Bool.{true, false}
+use mathlib.Core.List.{List}
+use mathlib.Core.Logic.{_≢_, _⊎_, inl, inr}
+use native.Mathlib.Omega.{arith}
+use borrow.Author.Tests.{eqb-true, eqb-false, not-true, ltb-true}
+use Rattle.kinds.specs.declared.Operation.{Operation}
+use Rattle.kinds.specs.declared.Verdict.the-variants.{Accepted}
+use Rattle.model.specs.Image.{Image, flag, phase, addr, get, blank}
+use Rattle.model.specs.Acts.{Act, commit, opening, closing, trace, isOpen, perform, apply}
+use Rattle.model.specs.Judge.{led, judge}
+use Rattle.model.specs.Sound.{SoundAt}
+use Rattle.model.specs.History.{Run, still, acted}
+use Rattle.model.proofs.Keys.{blank-zero}
+use Rattle.model.proofs.Places.{Shape}
+use Rattle.model.proofs.Moves.{Linked, Phase}
+use Rattle.model.proofs.Tracing.{phase-trace}
+use Rattle.model.proofs.Committing.{check-true, Good, commit-keeps, phase-perform, perform-head}
+use Rattle.model.proofs.Opening.{Shut, phase-open}
+use Rattle.model.proofs.Closing.{close-phase}
+use Rattle.model.proofs.Soundness.{limits-back}
+use Rattle.model.proofs.SoundnessMoves.{sound-linked}
+use Rattle.model.proofs.SoundnessActs.{act-sound, blank-sound}
+
+module _ (P S : ℕ) (shape : Shape P S) where
+  -- a heap that acts lead to is shut, or in a phase whose invariants hold
+  abbrev pub Heap : Image → Type 0
+  Heap x = (get x phase ≡ 0) ⊎ Phase P S x
+
+  pub is-open : (x : Image) → Heap x → isOpen x ≡ true → Phase P S x
+  is-open x (inl e) o = let p : get x phase ≡ 1 = eqb-true _ _ o in absurd (omega arith)
+  is-open x (inr ph) o = ph
+
+  -- a sound heap with the phase shut
+  pub is-shut : (x : Image) → SoundAt P S x → isOpen x ≡ false → Shut P S shape x
+  is-shut x s e =
+      let n : get x phase ≢ 1 = eqb-false _ _ e in
+      let b = s .phase-bit in
+      record { linked = sound-linked P S x s; plain = s .shut (omega arith) .unmarked }
+
+  -- what the passed checks of an accepted trace and an accepted close tell
+  pub traced-is : (x : Image) (p : ℕ) → judge P S x (trace p) ≡ Accepted → (isOpen x ≡ true) × (p < P) × (get x (flag p) ≡ 0)
+  unfolding judge
+  traced-is x p j =
+      let a = check-true _ _ _ _ j in
+      let b = check-true _ _ _ _ (a .1) in
+      (a .0, ltb-true _ _ (b .0), eqb-true _ _ (check-true _ _ _ _ (b .1) .0))
+
+  pub closed-is : (x : Image) → judge P S x closing ≡ Accepted → (isOpen x ≡ true) × (led P S x ≡ true)
+  unfolding judge
+  closed-is x j =
+      let a = check-true _ _ _ _ j in
+      let b = check-true _ _ _ _ (check-true _ _ _ _ (a .1) .1) in
+      (a .0, check-true _ _ _ _ (b .1) .0)
+
+  pub opened-is : (x : Image) → judge P S x opening ≡ Accepted → isOpen x ≡ false
+  unfolding judge
+  opened-is x j = not-true _ (check-true _ _ _ _ j .0)
+
+  heap-perform : (x : Image) (o : Operation) → Good P S x o → Heap x → Heap (perform S x o)
+  heap-perform x o g (inl e) = inl (perform-head P S shape x o 2 (omega arith) g ∙ e)
+  heap-perform x o g (inr ph) = inr (phase-perform P S shape x o g ph)
+
+  heap-keeps : (x : Image) (a : Act) → judge P S x a ≡ Accepted → Linked P S x → Heap x → Heap (apply P S x a)
+  unfolding judge apply
+  heap-keeps x (commit os) j w h = commit-keeps P S Heap heap-perform x 1 os (check-true _ _ _ _ j .1) h
+  heap-keeps x opening j w h = inr (phase-open P S shape x w)
+  heap-keeps x (trace p) j w h = let t = traced-is x p j in inr (phase-trace P S shape p (t .1) x (is-open x h (t .0)) (t .2))
+  heap-keeps x closing j w h = inl (close-phase P S shape x w)
+
+  -- What holds of every heap that acts lead to
+  pub record Reached (x : Image) : Type 0 where
+    pub sound : SoundAt P S x
+    pub heap : Heap x
+
+  pub act-keeps : (x : Image) (a : Act) → judge P S x a ≡ Accepted → Reached x → Reached (apply P S x a)
+  act-keeps x a j g = record { sound = act-sound P S x a (g .sound) j; heap = heap-keeps x a j (sound-linked P S x (g .sound)) (g .heap) }
+
+  pub run-reached : (x : Image) → Reached x → (acts : List Act) (y : Image) → Run P S x acts y → Reached y
+  run-reached x g _ _ still = g
+  run-reached x g _ _ (acted {acts = acts} {y = y} a r j) = act-keeps y a j (run-reached x g acts y r)
+
+  -- from a formatting
+  pub reached : (acts : List Act) (y : Image) → Run P S (blank P S) acts y → Reached y
+  unfolding addr
+  reached acts y r = run-reached (blank P S) (record { sound = blank-sound P S (limits-back P S shape); heap = inl (blank-zero P S phase (omega arith)) }) acts y r
