@@ -1,0 +1,113 @@
+-- Laws of the to-do list: a place is noted in what room there is, and what is noted stays.
+-- Assumes nothing.
+use Prim.Native.Nat.{ℕ, _+_, _*_, _≤_, _<_}
+use mathlib.Core.Path.{_≡_, refl, sym, ap, _∙_, subst}
+use mathlib.Core.Bool.{Bool, true, false}
+use mathlib.Core.Logic.{_≢_, ⊎-elim}
+use mathlib.Core.List.{List}
+use native.Mathlib.Omega.{arith}
+use lib.ListN.{length, getD, set, length-set}
+use lib.Seq.{getD-set-same, getD-set-other}
+use borrow.Author.Tests.{eqb-true, eq-eqb, ne-eqb}
+use Rattle.loops.specs.Loop.{tally, bit}
+use Rattle.loops.proofs.Tests.{eq-or-ne}
+use Rattle.loops.proofs.Loops.{tally-le, tally-move}
+use Rattle.model.specs.Image.{Image, placeOf}
+use Rattle.model.specs.Questions.{Bits, hasBit, addBit}
+use Rattle.model.specs.Chains.{Leads}
+use Rattle.questions.specs.Todo.{most, Todo, More, Follows, NotedAt, Told}
+
+-- one mark more
+module _ (marks : Bits) (j : ℕ) where
+  pub bit-same : length marks ≡ most → j < most → hasBit (addBit marks j) j ≡ true
+  unfolding hasBit addBit
+  bit-same w l = rw (getD-set-same marks j 1 0 (omega arith))
+
+  pub bit-other : (i : ℕ) → i ≢ j → hasBit (addBit marks j) i ≡ hasBit marks i
+  unfolding hasBit addBit
+  bit-other i ne = rw (getD-set-other marks j i 1 0 ne)
+
+  pub bit-wide : length marks ≡ most → length (addBit marks j) ≡ most
+  unfolding addBit
+  bit-wide w = length-set marks j 1 ∙ w
+
+  pub bit-stays : length marks ≡ most → j < most → (i : ℕ) → hasBit marks i ≡ true → hasBit (addBit marks j) i ≡ true
+  bit-stays w l i h =
+      ⊎-elim (λ q. subst (λ (v : ℕ). hasBit (addBit marks j) v ≡ true) (sym q) (bit-same w l)) (λ ne. bit-other i ne ∙ h) (eq-or-ne i j)
+
+module _ {S : ℕ} {img : Image} {marks : Bits} {list : List ℕ} {n : ℕ} (t : Todo S img marks list n) where
+  pub more-none : More S img marks list n marks list n
+  more-none = record { todo = t; longer = omega arith; marked = λ j h. h; kept = λ i l. refl }
+
+  pub todo-most : n ≤ most
+  todo-most = omega (arith, t .counted, tally-le most (hasBit marks))
+
+  module _ (j : ℕ) (l : j < most) (new : hasBit marks j ≡ false) where
+    counted-more : n + 1 ≡ tally most (hasBit (addBit marks j))
+    counted-more =
+        let b : bit (hasBit marks j) ≡ 0 = rw new in
+        let b' : bit (hasBit (addBit marks j) j) ≡ 1 = rw (bit-same marks j (t .wide) l) in
+        let m : tally most (hasBit (addBit marks j)) + bit (hasBit marks j) ≡ tally most (hasBit marks) + bit (hasBit (addBit marks j) j) =
+        tally-move most (hasBit marks) (hasBit (addBit marks j)) j l (λ i k ne. sym (bit-other marks j i ne)) in
+        omega (arith, t .counted)
+
+    -- a place that is not noted has room in the list
+    pub room : n < most
+    room = omega (arith, counted-more, tally-le most (hasBit (addBit marks j)))
+
+    pub more-one : Leads S img j → More S img marks list n (addBit marks j) (set list n j) (n + 1)
+    more-one led =
+        record {
+          todo =
+            record {
+              wide = bit-wide marks j (t .wide);
+              long = length-set list n j ∙ t .long;
+              counted = counted-more;
+              listed = λ i h. ⊎-elim (λ q. (n, omega arith, at-end ∙ sym q)) (λ ne. old i (t .listed i (sym (bit-other marks j i ne) ∙ h))) (eq-or-ne i j);
+              reached = λ i k. ⊎-elim (λ q. subst (Leads S img) (sym (ap (λ (v : ℕ). getD (set list n j) v 0) q ∙ at-end)) led) (λ ne. subst (Leads S img) (sym (before i ne)) (t .reached i (omega arith))) (eq-or-ne i n);
+            };
+          longer = omega arith;
+          marked = bit-stays marks j (t .wide) l;
+          kept = λ i k. before i (λ q. omega arith);
+        }
+      where
+        at-end : getD (set list n j) n 0 ≡ j
+        at-end = getD-set-same list n j 0 (omega (arith, room, t .long))
+        before : (i : ℕ) → i ≢ n → getD (set list n j) i 0 ≡ getD list i 0
+        before i ne = getD-set-other list n i j 0 ne
+        old : (i : ℕ) → (k : ℕ) × (k < n) × (getD list k 0 ≡ i) → (k : ℕ) × (k < n + 1) × (getD (set list n j) k 0 ≡ i)
+        old i w = (w .0, omega arith, before (w .0) (λ q. omega arith) ∙ w .2)
+
+pub more-then : {S : ℕ} {img : Image} {a b c k l m : List ℕ} {x y z : ℕ} → More S img a k x b l y → More S img b l y c m z → More S img a k x c m z
+more-then p q =
+    record {
+      todo = q .todo;
+      longer = omega arith;
+      marked = λ j h. q .marked j (p .marked j h);
+      kept = λ i h. q .kept i (omega arith) ∙ p .kept i h;
+    }
+
+-- what `note` knows of the word at an address, and of the place j that it names
+module _ {S : ℕ} {img : Image} {a : ℕ} {marks : Bits} {list : List ℕ} {n : ℕ} (f : Follows S img a) (t : Todo S img marks list n) where
+  pub note-none : getD img a 0 ≡ 0 → More S img marks list n marks list n × NotedAt S img marks a
+  unfolding NotedAt
+  note-none e = (more-none t, λ ne. absurd (ne e))
+
+  module _ (some : getD img a 0 ≢ 0) (j : ℕ) (e : j ≡ placeOf S (getD img a 0)) where
+    pub note-in : j < most
+    note-in = rw e (f .place some)
+
+    pub note-old : getD marks j 0 ≡ 1 → More S img marks list n marks list n × NotedAt S img marks a
+    unfolding NotedAt hasBit
+    note-old h = (more-none t, λ ne. rw (← e) (eq-eqb _ _ h))
+
+    unmarked : getD marks j 0 ≢ 1 → hasBit marks j ≡ false
+    unfolding hasBit
+    unmarked h = ne-eqb _ _ h
+
+    pub note-room : getD marks j 0 ≢ 1 → n < most
+    note-room h = room t j note-in (unmarked h)
+
+    pub note-new : getD marks j 0 ≢ 1 → More S img marks list n (set marks j 1) (set list n j) (n + 1) × NotedAt S img (set marks j 1) a
+    unfolding NotedAt addBit
+    note-new h = (more-one t j note-in (unmarked h) (rw e (f .led some)), λ ne. rw (← e) (bit-same marks j (t .wide) note-in))

@@ -1,0 +1,51 @@
+// The questions on an image: read an object, and ask whether a root leads to it. Both leave the image as found.
+// `judge_name` says 7 or 9, `read` answers the record, and `ask` says yes exactly where the model's `ask` does: its contract is that equation.
+// `ask` is a to-do list: a place is noted once, when a root or a field of a noted place is found to name it (specs/Todo.antt), and
+// proofs/Noting.antt shows that at the end exactly the places to which a root leads are noted.
+use kinds::Name;
+use kinds::Record;
+use kinds::Refusal;
+use kinds::Verdict;
+
+ghost use mathlib.Core.Path.{_≡_};
+ghost use Prim.Native.Nat.{ℕ, _+_, _*_, _≤_, _<_};
+ghost use lib.ListN.{length, getD, replicate};
+ghost use Rattle.model.specs.Image.{place, front, stride};
+ghost use Rattle.model.specs.Judge.{judgeName};
+ghost use Rattle.model.specs.Questions as Questions;
+ghost use Rattle.image.specs.Within.{Within};
+ghost use Rattle.questions.specs.Todo.{Todo, More, Follows, NotedAt, Told};
+
+fn wide(x: u32) -> usize
+    ensures { λ r. ⌜ r ≡ x ⌝ }
+{
+    x as usize
+}
+
+// As many zeros as there can be places.
+fn zeros() -> [u32; 1024]
+    ensures { λ r. ⌜ r ≡ replicate 1024 0 ⌝ }
+{
+    [0u32; 1024]
+}
+
+// What the word at an address names, if anything, is noted: marked, and put at the end of the list.
+fn note(img: &[u32], s: usize, a: usize, marks: &mut [u32; 1024], list: &mut [u32; 1024], n: usize) -> usize
+    requires { ⌜ s ≤ 64 ⌝ }
+    requires { ⌜ Follows s (now img) a ⌝ }
+    requires { ⌜ Todo s (now img) (now marks) (now list) n ⌝ }
+    ensures { λ r. ⌜ More s (now (img .entry)) (now (marks .entry)) (now (list .entry)) n (now (marks .exit)) (now (list .exit)) r ⌝ }
+    ensures { λ r. ⌜ NotedAt s (now (img .entry)) (now (marks .exit)) a ⌝ }
+{
+    let w = img[a];
+    if w == 0 {
+        return n;
+    }
+    let j = image::place_of(w, s);
+    if marks[j] == 1 {
+        return n;
+    }
+    marks[j] = 1;
+    list[n] = j as u32;
+    n + 1
+}
