@@ -15,7 +15,7 @@ use Rattle.loops.proofs.Loops.{tally-le, tally-move}
 use Rattle.model.specs.Image.{Image, placeOf}
 use Rattle.model.specs.Questions.{Bits, hasBit, addBit}
 use Rattle.model.specs.Chains.{Leads}
-use Rattle.questions.specs.Todo.{most, Todo, More, Follows, NotedAt, Told}
+use Rattle.questions.specs.Todo.{most, Todo, More, Follows, NotedAt, NotedRow, Told}
 
 -- one mark more
 module _ (marks : Bits) (j : ℕ) where
@@ -111,3 +111,23 @@ module _ {S : ℕ} {img : Image} {a : ℕ} {marks : Bits} {list : List ℕ} {n :
     pub note-new : getD marks j 0 ≢ 1 → More S img marks list n (set marks j 1) (set list n j) (n + 1) × NotedAt S img (set marks j 1) a
     unfolding NotedAt addBit
     note-new h = (more-one t j note-in (unmarked h) (rw e (f .led some)), λ ne. rw (← e) (bit-same marks j (t .wide) note-in))
+
+-- a row, word by word
+module _ {S : ℕ} {img : Image} where
+  pub noted-stays : {m l m' l' : List ℕ} {n n' : ℕ} (a : ℕ) → More S img m l n m' l' n' → NotedAt S img m a → NotedAt S img m' a
+  unfolding NotedAt
+  noted-stays a g h ne = g .marked _ (h ne)
+
+  pub row-none : (from : ℕ) {m l : List ℕ} {n : ℕ} → Todo S img m l n → NotedRow S img from 0 m l n m l n
+  row-none from t = record { more = more-none t; noted = λ i l. absurd (omega arith) }
+
+  pub row-more : {from k : ℕ} {m l m' l' m'' l'' : List ℕ} {n n' n'' : ℕ} → NotedRow S img from k m l n m' l' n'
+      → More S img m' l' n' m'' l'' n'' × NotedAt S img m'' (from + k) → NotedRow S img from (k + 1) m l n m'' l'' n''
+  row-more {from} {k} {m'' = m''} r g =
+      record {
+        more = more-then (r .more) (g .0);
+        noted = λ i l. ⊎-elim (λ q. subst (λ (v : ℕ). NotedAt S img m'' (from + v)) (sym q) (g .1)) (λ ne. noted-stays (from + i) (g .0) (r .noted i (omega arith))) (eq-or-ne i k);
+      }
+
+  pub row-done : {from k count : ℕ} {m l m' l' : List ℕ} {n n' : ℕ} → count ≤ k → NotedRow S img from k m l n m' l' n' → NotedRow S img from count m l n m' l' n'
+  row-done le r = record { more = r .more; noted = λ i l. r .noted i (omega arith) }

@@ -39,6 +39,11 @@ pub record Follows (S : ℕ) (img : Image) (a : ℕ) : Type 0 where
 unfoldable pub NotedAt : ℕ → Image → Bits → ℕ → Type 0
 NotedAt S img marks a = getD img a 0 ≢ 0 → hasBit marks (placeOf S (getD img a 0)) ≡ true
 
+-- more is noted, and of `count` addresses all that their words name
+pub record NotedRow (S : ℕ) (img : Image) (from count : ℕ) (marks : Bits) (list : List ℕ) (n : ℕ) (marks' : Bits) (list' : List ℕ) (n' : ℕ) : Type 0 where
+  pub more : More S img marks list n marks' list' n'
+  pub noted : (i : ℕ) → i < count → NotedAt S img marks' (from + i)
+
 -- exactly the places to which a root leads are noted
 pub record Told (S : ℕ) (img : Image) (marks : Bits) : Type 0 where
   pub so : (j : ℕ) → Leads S img j → hasBit marks j ≡ true

@@ -10,11 +10,12 @@ use kinds::Verdict;
 ghost use mathlib.Core.Path.{_≡_};
 ghost use Prim.Native.Nat.{ℕ, _+_, _*_, _≤_, _<_};
 ghost use lib.ListN.{length, getD, replicate};
+ghost use Rattle.kinds.specs.Names.{mostSlots};
 ghost use Rattle.model.specs.Image.{place, front, stride};
 ghost use Rattle.model.specs.Judge.{judgeName};
 ghost use Rattle.model.specs.Questions as Questions;
 ghost use Rattle.image.specs.Within.{Within};
-ghost use Rattle.questions.specs.Todo.{Todo, More, Follows, NotedAt, Told};
+ghost use Rattle.questions.specs.Todo.{Todo, More, Follows, NotedAt, NotedRow, Told};
 
 fn wide(x: u32) -> usize
     ensures { λ r. ⌜ r ≡ x ⌝ }
@@ -31,7 +32,7 @@ fn zeros() -> [u32; 1024]
 
 // What the word at an address names, if anything, is noted: marked, and put at the end of the list.
 fn note(img: &[u32], s: usize, a: usize, marks: &mut [u32; 1024], list: &mut [u32; 1024], n: usize) -> usize
-    requires { ⌜ s ≤ 64 ⌝ }
+    requires { ⌜ s ≤ mostSlots ⌝ }
     requires { ⌜ Follows s (now img) a ⌝ }
     requires { ⌜ Todo s (now img) (now marks) (now list) n ⌝ }
     ensures { λ r. ⌜ More s (now (img .entry)) (now (marks .entry)) (now (list .entry)) n (now (marks .exit)) (now (list .exit)) r ⌝ }
@@ -48,4 +49,59 @@ fn note(img: &[u32], s: usize, a: usize, marks: &mut [u32; 1024], list: &mut [u3
     marks[j] = 1;
     list[n] = j as u32;
     n + 1
+}
+
+// The same of every word of a row of `count` words.
+fn note_row(
+    img: &[u32],
+    s: usize,
+    from: usize,
+    count: usize,
+    marks: &mut [u32; 1024],
+    list: &mut [u32; 1024],
+    n: usize,
+) -> usize
+    requires { ⌜ s ≤ mostSlots ⌝ }
+    requires { ⌜ ((i : ℕ) → i < count → Follows s (now img) (from + i)) ⌝ }
+    requires { ⌜ Todo s (now img) (now marks) (now list) n ⌝ }
+    ensures { λ r. ⌜ NotedRow s (now (img .entry)) from count (now (marks .entry)) (now (list .entry)) n (now (marks .exit)) (now (list .exit)) r ⌝ }
+{
+    let mut end = n;
+    let mut i: usize = 0;
+    while i < count {
+        end = note(img, s, from + i, &mut *marks, &mut *list, end);
+        i += 1;
+    }
+    end
+}
+
+// The roots' row is noted, then the row of the fields of each place of the list, the list growing meanwhile.
+fn spread(img: &[u32], p: usize, s: usize, marks: &mut [u32; 1024], list: &mut [u32; 1024])
+    requires { ⌜ Within p s (now img) ⌝ }
+    requires { ⌜ Todo s (now img) (now marks) (now list) 0 ⌝ }
+    ensures { λ _. ⌜ Told s (now (img .entry)) (now (marks .exit)) ⌝ }
+{
+    let mut n = note_row(img, s, image::ROOT, image::ANCHORS, &mut *marks, &mut *list, 0);
+    let mut at: usize = 0;
+    while at < n {
+        let j = wide(list[at]);
+        n = note_row(img, s, image::FRONT + image::STRIDE * j + 2, 4, &mut *marks, &mut *list, n);
+        at += 1;
+    }
+}
+
+// Whether a root leads to the object of a name.
+pub fn ask(img: &[u32], p: usize, s: usize, n: Name) -> bool
+    requires { ⌜ Within p s (now img) ⌝ }
+    requires { ⌜ place s n < p * s ⌝ }
+    ensures { λ r. ⌜ r ≡ Questions.ask p s (now (img .entry)) (place s n) ⌝ }
+{
+    let j = n.partition.0 as usize * s + n.slot.0 as usize;
+    let mut marks = zeros();
+    let mut list = zeros();
+    spread(img, p, s, &mut marks, &mut list);
+    if marks[j] == 1 {
+        return true;
+    }
+    false
 }

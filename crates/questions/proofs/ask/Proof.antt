@@ -1,0 +1,67 @@
+use borrow.Author.Needs.{needs}
+use Rattle.questions.proofs.ask.Statement.{statement}
+use Rattle.questions.proofs.ask.Tie as tie
+use Rattle.questions.proofs.ask.Reads as reads
+use Rattle.questions.proofs.ask.Lts as lts
+use Rattle.questions.proofs.spread.Reads as spread-reads
+use Rattle.questions.proofs.zeros.Reads as zeros-reads
+
+-- src/lib.rt:99:13
+cast-j : tie.Need-cast-j
+cast-j c = search needs
+
+-- src/lib.rt:99:13
+mul-j : tie.Need-mul-j
+mul-j c = search needs
+
+-- src/lib.rt:99:42
+cast-j-2 : tie.Need-cast-j-2
+cast-j-2 c = search needs
+
+-- src/lib.rt:99:13
+add-j : tie.Need-add-j
+add-j c = search needs
+
+-- src/lib.rt:100:21
+zeros-requires : tie.Need-zeros-requires
+zeros-requires c κs = search needs
+
+-- src/lib.rt:101:20
+zeros-requires-2 : tie.Need-zeros-requires-2
+zeros-requires-2 c κs = search needs
+
+-- src/lib.rt:102:5
+spread-requires : tie.Need-spread-requires
+spread-requires c κs = ?
+
+-- src/lib.rt:103:8
+mul-if1 : tie.Need-mul-if1
+mul-if1 c = search needs
+
+-- src/lib.rt:103:8
+array-read-if1 : tie.Need-array-read-if1
+array-read-if1 c = ?
+
+-- src/lib.rt:104:9
+returns : tie.Need-returns
+returns c = ?
+
+-- src/lib.rt:94:1
+returns-2 : tie.Need-returns-2
+returns-2 c = ?
+
+pub ask-spec : {M : Type 1} → statement M
+ask-spec =
+    tie.close
+    (tie.spec
+    cast-j
+    mul-j
+    cast-j-2
+    add-j
+    zeros-requires
+    zeros-requires-2
+    spread-requires
+    mul-if1
+    array-read-if1
+    returns
+    returns-2)
