@@ -1,16 +1,16 @@
 -- Laws of the to-do list: a place is noted in what room there is, and what is noted stays.
 -- Assumes nothing.
-use Prim.Native.Nat.{ℕ, _+_, _*_, _≤_, _<_}
+use Prim.Native.Nat.{ℕ, zero, suc, _+_, _≤_, _<_}
 use mathlib.Core.Path.{_≡_, refl, sym, ap, _∙_, subst}
 use mathlib.Core.Bool.{Bool, true, false}
 use mathlib.Core.Logic.{_≢_, ⊎-elim}
 use mathlib.Core.List.{List}
 use native.Mathlib.Omega.{arith}
-use lib.ListN.{length, getD, set, length-set}
+use lib.ListN.{length, getD, set, replicate, length-set, length-replicate}
 use lib.Seq.{getD-set-same, getD-set-other}
 use borrow.Author.Tests.{eqb-true, eq-eqb, ne-eqb}
 use Rattle.loops.specs.Loop.{tally, bit}
-use Rattle.loops.proofs.Tests.{eq-or-ne}
+use Rattle.loops.proofs.Tests.{eq-or-ne, clash}
 use Rattle.loops.proofs.Loops.{tally-le, tally-move}
 use Rattle.model.specs.Image.{Image, placeOf}
 use Rattle.model.specs.Questions.{Bits, hasBit, addBit}
@@ -86,6 +86,32 @@ more-then p q =
       marked = λ j h. q .marked j (p .marked j h);
       kept = λ i h. q .kept i (omega arith) ∙ p .kept i h;
     }
+
+-- at first nothing is noted
+tally-empty : (n : ℕ) (f : ℕ → Bool) → ((i : ℕ) → i < n → f i ≡ false) → 0 ≡ tally n f
+unfolding tally
+tally-empty zero f h = refl
+tally-empty (suc n) f h = rw (h n (omega arith), ← tally-empty n f (λ i l. h i (omega arith)))
+
+zeros : (n j : ℕ) → _≡_ {A = ℕ} (getD (replicate n 0) j 0) 0
+zeros zero j = refl
+zeros (suc n) zero = refl
+zeros (suc n) (suc j) = zeros n j
+
+zero-unmarked : (j : ℕ) → hasBit (replicate most 0) j ≡ false
+unfolding hasBit
+zero-unmarked j = rw (zeros most j)
+
+pub todo-first : {S : ℕ} {img : Image} (m l : List ℕ) → m ≡ replicate most 0 → l ≡ replicate most 0 → Todo S img m l 0
+todo-first m l e q =
+    rw (e, q)
+    (record {
+      wide = length-replicate {A = ℕ} most 0;
+      long = length-replicate {A = ℕ} most 0;
+      counted = tally-empty most _ (λ i k. zero-unmarked i);
+      listed = λ j h. absurd (clash h (zero-unmarked j));
+      reached = λ i k. absurd (omega arith);
+    })
 
 -- what `note` knows of the word at an address, and of the place j that it names
 module _ {S : ℕ} {img : Image} {a : ℕ} {marks : Bits} {list : List ℕ} {n : ℕ} (f : Follows S img a) (t : Todo S img marks list n) where

@@ -2,6 +2,7 @@
 // `judge_name` says 7 or 9, `read` answers the record, and `ask` says yes exactly where the model's `ask` does: its contract is that equation.
 // `ask` is a to-do list: a place is noted once, when a root or a field of a noted place is found to name it (specs/Todo.antt), and
 // proofs/Noting.antt shows that at the end exactly the places to which a root leads are noted.
+use kinds::Field;
 use kinds::Name;
 use kinds::Record;
 use kinds::Refusal;
@@ -21,6 +22,50 @@ fn wide(x: u32) -> usize
     ensures { λ r. ⌜ r ≡ x ⌝ }
 {
     x as usize
+}
+
+// What a question on a name is refused with: 7 for its numbers, then 9.
+pub fn judge_name(img: &[u32], p: usize, s: usize, n: Name) -> Verdict
+    requires { ⌜ Within p s (now img) ⌝ }
+    ensures { λ r. ⌜ r ≡ judgeName p s (now (img .entry)) n ⌝ }
+{
+    if p <= n.partition.0 as usize {
+        return Verdict::refuse(Refusal::RANGE, 0);
+    }
+    if s <= n.slot.0 as usize {
+        return Verdict::refuse(Refusal::RANGE, 0);
+    }
+    let j = image::place(n, s);
+    if img[image::FRONT + image::STRIDE * j] == 0 {
+        return Verdict::refuse(Refusal::ABSENT, 0);
+    }
+    Verdict::Accepted
+}
+
+// Field k of place j.
+fn field_at(img: &[u32], j: usize, k: usize) -> Field
+    requires { ⌜ front + stride * j + 2 + k < length (now img) ⌝ }
+    ensures { λ r. ⌜ r ≡ Questions.fieldOf (now (img .entry)) j k ⌝ }
+{
+    let target = kinds::target_of(img[image::FRONT + image::STRIDE * j + 2 + k]);
+    Field { target: target }
+}
+
+// The object of a name: its payload beside its four fields.
+pub fn read(img: &[u32], s: usize, n: Name) -> Record
+    requires { ⌜ front + stride * (place s n + 1) ≤ length (now img) ⌝ }
+    ensures { λ r. ⌜ r ≡ Questions.readOf (now (img .entry)) (place s n) ⌝ }
+{
+    let j = n.partition.0 as usize * s + n.slot.0 as usize;
+    let payload = img[image::FRONT + image::STRIDE * j + 1];
+    let a = field_at(img, j, 0);
+    let b = field_at(img, j, 1);
+    let c = field_at(img, j, 2);
+    let d = field_at(img, j, 3);
+    Record {
+        payload: payload,
+        fields: [a, b, c, d],
+    }
 }
 
 // As many zeros as there can be places.
