@@ -22,7 +22,7 @@ module _ {P S : ℕ} {x : Image} (w : Within P S x) where
   pub places : P * S ≤ most
   places = product mostPartitions P S (w .small) (w .wide)
 
-  named-in : (κ : Key) (j : ℕ) → Holder (P * S) κ → Names S x κ j → j < P * S
+  pub named-in : (κ : Key) (j : ℕ) → Holder (P * S) κ → Names S x κ j → j < P * S
   named-in κ j h m = subst (λ (v : ℕ). v < P * S) (m .target) (w .refs κ h (m .some))
 
   -- a root leads to places of the image only

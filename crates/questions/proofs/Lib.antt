@@ -1,3 +1,5 @@
+pub mod Bitting
 pub mod Noting
 pub mod Leading
 pub mod Naming
+pub mod Asking

@@ -15,25 +15,8 @@ use Rattle.loops.proofs.Loops.{tally-le, tally-move}
 use Rattle.model.specs.Image.{Image, placeOf}
 use Rattle.model.specs.Questions.{Bits, hasBit, addBit}
 use Rattle.model.specs.Chains.{Leads}
+use Rattle.questions.proofs.Bitting.{none-has, bit-same, bit-other, bit-wide, bit-stays}
 use Rattle.questions.specs.Todo.{most, Todo, More, Follows, NotedAt, NotedRow, Told}
-
--- one mark more
-module _ (marks : Bits) (j : ℕ) where
-  pub bit-same : length marks ≡ most → j < most → hasBit (addBit marks j) j ≡ true
-  unfolding hasBit addBit
-  bit-same w l = rw (getD-set-same marks j 1 0 (omega arith))
-
-  pub bit-other : (i : ℕ) → i ≢ j → hasBit (addBit marks j) i ≡ hasBit marks i
-  unfolding hasBit addBit
-  bit-other i ne = rw (getD-set-other marks j i 1 0 ne)
-
-  pub bit-wide : length marks ≡ most → length (addBit marks j) ≡ most
-  unfolding addBit
-  bit-wide w = length-set marks j 1 ∙ w
-
-  pub bit-stays : length marks ≡ most → j < most → (i : ℕ) → hasBit marks i ≡ true → hasBit (addBit marks j) i ≡ true
-  bit-stays w l i h =
-      ⊎-elim (λ q. subst (λ (v : ℕ). hasBit (addBit marks j) v ≡ true) (sym q) (bit-same w l)) (λ ne. bit-other i ne ∙ h) (eq-or-ne i j)
 
 module _ {S : ℕ} {img : Image} {marks : Bits} {list : List ℕ} {n : ℕ} (t : Todo S img marks list n) where
   pub more-none : More S img marks list n marks list n
@@ -46,9 +29,9 @@ module _ {S : ℕ} {img : Image} {marks : Bits} {list : List ℕ} {n : ℕ} (t :
     counted-more : n + 1 ≡ tally most (hasBit (addBit marks j))
     counted-more =
         let b : bit (hasBit marks j) ≡ 0 = rw new in
-        let b' : bit (hasBit (addBit marks j) j) ≡ 1 = rw (bit-same marks j (t .wide) l) in
+        let b' : bit (hasBit (addBit marks j) j) ≡ 1 = rw (bit-same most marks j (t .wide) l) in
         let m : tally most (hasBit (addBit marks j)) + bit (hasBit marks j) ≡ tally most (hasBit marks) + bit (hasBit (addBit marks j) j) =
-        tally-move most (hasBit marks) (hasBit (addBit marks j)) j l (λ i k ne. sym (bit-other marks j i ne)) in
+        tally-move most (hasBit marks) (hasBit (addBit marks j)) j l (λ i k ne. sym (bit-other most marks j i ne)) in
         omega (arith, t .counted)
 
     -- a place that is not noted has room in the list
@@ -60,14 +43,14 @@ module _ {S : ℕ} {img : Image} {marks : Bits} {list : List ℕ} {n : ℕ} (t :
         record {
           todo =
             record {
-              wide = bit-wide marks j (t .wide);
+              wide = bit-wide most marks j (t .wide);
               long = length-set list n j ∙ t .long;
               counted = counted-more;
-              listed = λ i h. ⊎-elim (λ q. (n, omega arith, at-end ∙ sym q)) (λ ne. old i (t .listed i (sym (bit-other marks j i ne) ∙ h))) (eq-or-ne i j);
+              listed = λ i h. ⊎-elim (λ q. (n, omega arith, at-end ∙ sym q)) (λ ne. old i (t .listed i (sym (bit-other most marks j i ne) ∙ h))) (eq-or-ne i j);
               reached = λ i k. ⊎-elim (λ q. subst (Leads S img) (sym (ap (λ (v : ℕ). getD (set list n j) v 0) q ∙ at-end)) led) (λ ne. subst (Leads S img) (sym (before i ne)) (t .reached i (omega arith))) (eq-or-ne i n);
             };
           longer = omega arith;
-          marked = bit-stays marks j (t .wide) l;
+          marked = bit-stays most marks j (t .wide) l;
           kept = λ i k. before i (λ q. omega arith);
         }
       where
@@ -93,23 +76,14 @@ unfolding tally
 tally-empty zero f h = refl
 tally-empty (suc n) f h = rw (h n (omega arith), ← tally-empty n f (λ i l. h i (omega arith)))
 
-zeros : (n j : ℕ) → _≡_ {A = ℕ} (getD (replicate n 0) j 0) 0
-zeros zero j = refl
-zeros (suc n) zero = refl
-zeros (suc n) (suc j) = zeros n j
-
-zero-unmarked : (j : ℕ) → hasBit (replicate most 0) j ≡ false
-unfolding hasBit
-zero-unmarked j = rw (zeros most j)
-
 pub todo-first : {S : ℕ} {img : Image} (m l : List ℕ) → m ≡ replicate most 0 → l ≡ replicate most 0 → Todo S img m l 0
 todo-first m l e q =
     rw (e, q)
     (record {
       wide = length-replicate {A = ℕ} most 0;
       long = length-replicate {A = ℕ} most 0;
-      counted = tally-empty most _ (λ i k. zero-unmarked i);
-      listed = λ j h. absurd (clash h (zero-unmarked j));
+      counted = tally-empty most _ (λ i k. none-has most i);
+      listed = λ j h. absurd (clash h (none-has most j));
       reached = λ i k. absurd (omega arith);
     })
 
@@ -136,7 +110,7 @@ module _ {S : ℕ} {img : Image} {a : ℕ} {marks : Bits} {list : List ℕ} {n :
 
     pub note-new : getD marks j 0 ≢ 1 → More S img marks list n (set marks j 1) (set list n j) (n + 1) × NotedAt S img (set marks j 1) a
     unfolding NotedAt addBit
-    note-new h = (more-one t j note-in (unmarked h) (rw e (f .led some)), λ ne. rw (← e) (bit-same marks j (t .wide) note-in))
+    note-new h = (more-one t j note-in (unmarked h) (rw e (f .led some)), λ ne. rw (← e) (bit-same most marks j (t .wide) note-in))
 
 -- a row, word by word
 module _ {S : ℕ} {img : Image} where

@@ -1,3 +1,7 @@
+use Rattle.questions.proofs.Asking.{answer-so, answer-not}
+use Rattle.questions.proofs.Leading.{places}
+use Rattle.questions.proofs.Noting.{todo-first}
+use native.Mathlib.Omega.{arith}
 use borrow.Author.Needs.{needs}
 use Rattle.questions.proofs.ask.Statement.{statement}
 use Rattle.questions.proofs.ask.Tie as tie
@@ -32,7 +36,7 @@ zeros-requires-2 c κs = search needs
 
 -- src/lib.rt:102:5
 spread-requires : tie.Need-spread-requires
-spread-requires c κs = ?
+spread-requires c κs = (c .before .before .before .before .before .before .before .pre .0, todo-first _ _ (c .before .before .before .zeros .ensures) (c .before .before .zeros2 .ensures))
 
 -- src/lib.rt:103:8
 mul-if1 : tie.Need-mul-if1
@@ -40,15 +44,15 @@ mul-if1 c = search needs
 
 -- src/lib.rt:103:8
 array-read-if1 : tie.Need-array-read-if1
-array-read-if1 c = ?
+array-read-if1 c = omega (arith, c .before .before .before .before .before .before .before .before .pre .1, places (c .before .before .before .before .before .before .before .before .pre .0))
 
 -- src/lib.rt:104:9
 returns : tie.Need-returns
-returns c = ?
+returns c = answer-so (c .before .before .before .before .before .before .before .before .before .pre .0) _ (c .before .spread .ensures) _ (c .if1 .taken)
 
 -- src/lib.rt:94:1
 returns-2 : tie.Need-returns-2
-returns-2 c = ?
+returns-2 c = answer-not (c .before .before .before .before .before .before .before .before .before .pre .0) _ (c .before .spread .ensures) _ (c .if1 .left)
 
 pub ask-spec : {M : Type 1} → statement M
 ask-spec =
