@@ -77,10 +77,10 @@ module _ {S : ℕ} {x : Image} where
           within = omega (arith, r .more .longer);
           roots = λ i g. noted-stays (5 + i) (r .more) (p .roots i g);
           fields =
-            λ i g k b.
-            subst (λ (v : ℕ). NotedAt S x m' (front + stride * v + 2 + k)) (sym (r .more .kept i (omega arith)))
-            (⊎-elim (λ q. subst (λ (v : ℕ). NotedAt S x m' (front + stride * v + 2 + k)) (e ∙ ap (λ (v : ℕ). getD l v 0) (sym q)) (r .noted k b))
-            (λ ne. noted-stays (front + stride * getD l i 0 + 2 + k) (r .more) (p .fields i (omega arith) k b)) (eq-or-ne i at));
+              λ i g k b.
+              subst (λ (v : ℕ). NotedAt S x m' (front + stride * v + 2 + k)) (sym (r .more .kept i (omega arith)))
+              (⊎-elim (λ q. subst (λ (v : ℕ). NotedAt S x m' (front + stride * v + 2 + k)) (e ∙ ap (λ (v : ℕ). getD l v 0) (sym q)) (r .noted k b))
+              (λ ne. noted-stays (front + stride * getD l i 0 + 2 + k) (r .more) (p .fields i (omega arith) k b)) (eq-or-ne i at));
         }
 
   module _ {m l : List ℕ} {n at : ℕ} (le : n ≤ at) (p : Spreading S x m l n at) where

@@ -42,13 +42,13 @@ module _ {S : ℕ} {img : Image} {marks : Bits} {list : List ℕ} {n : ℕ} (t :
     more-one led =
         record {
           todo =
-            record {
-              wide = bit-wide most marks j (t .wide);
-              long = length-set list n j ∙ t .long;
-              counted = counted-more;
-              listed = λ i h. ⊎-elim (λ q. (n, omega arith, at-end ∙ sym q)) (λ ne. old i (t .listed i (sym (bit-other most marks j i ne) ∙ h))) (eq-or-ne i j);
-              reached = λ i k. ⊎-elim (λ q. subst (Leads S img) (sym (ap (λ (v : ℕ). getD (set list n j) v 0) q ∙ at-end)) led) (λ ne. subst (Leads S img) (sym (before i ne)) (t .reached i (omega arith))) (eq-or-ne i n);
-            };
+              record {
+                wide = bit-wide most marks j (t .wide);
+                long = length-set list n j ∙ t .long;
+                counted = counted-more;
+                listed = λ i h. ⊎-elim (λ q. (n, omega arith, at-end ∙ sym q)) (λ ne. old i (t .listed i (sym (bit-other most marks j i ne) ∙ h))) (eq-or-ne i j);
+                reached = λ i k. ⊎-elim (λ q. subst (Leads S img) (sym (ap (λ (v : ℕ). getD (set list n j) v 0) q ∙ at-end)) led) (λ ne. subst (Leads S img) (sym (before i ne)) (t .reached i (omega arith))) (eq-or-ne i n);
+              };
           longer = omega arith;
           marked = bit-stays most marks j (t .wide) l;
           kept = λ i k. before i (λ q. omega arith);
@@ -56,8 +56,10 @@ module _ {S : ℕ} {img : Image} {marks : Bits} {list : List ℕ} {n : ℕ} (t :
       where
         at-end : getD (set list n j) n 0 ≡ j
         at-end = getD-set-same list n j 0 (omega (arith, room, t .long))
+
         before : (i : ℕ) → i ≢ n → getD (set list n j) i 0 ≡ getD list i 0
         before i ne = getD-set-other list n i j 0 ne
+
         old : (i : ℕ) → (k : ℕ) × (k < n) × (getD list k 0 ≡ i) → (k : ℕ) × (k < n + 1) × (getD (set list n j) k 0 ≡ i)
         old i w = (w .0, omega arith, before (w .0) (λ q. omega arith) ∙ w .2)
 

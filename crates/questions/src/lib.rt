@@ -7,7 +7,6 @@ use kinds::Name;
 use kinds::Record;
 use kinds::Refusal;
 use kinds::Verdict;
-
 ghost use mathlib.Core.Path.{_≡_};
 ghost use Prim.Native.Nat.{ℕ, _+_, _*_, _≤_, _<_};
 ghost use lib.ListN.{length, getD, replicate};
@@ -76,7 +75,14 @@ fn zeros() -> [u32; 1024]
 }
 
 // What the word at an address names, if anything, is noted: marked, and put at the end of the list.
-fn note(img: &[u32], s: usize, a: usize, marks: &mut [u32; 1024], list: &mut [u32; 1024], n: usize) -> usize
+fn note(
+    img: &[u32],
+    s: usize,
+    a: usize,
+    marks: &mut [u32; 1024],
+    list: &mut [u32; 1024],
+    n: usize,
+) -> usize
     requires { ⌜ s ≤ mostSlots ⌝ }
     requires { ⌜ Follows s (now img) a ⌝ }
     requires { ⌜ Todo s (now img) (now marks) (now list) n ⌝ }
@@ -126,11 +132,27 @@ fn spread(img: &[u32], p: usize, s: usize, marks: &mut [u32; 1024], list: &mut [
     requires { ⌜ Todo s (now img) (now marks) (now list) 0 ⌝ }
     ensures { λ _. ⌜ Told s (now (img .entry)) (now (marks .exit)) ⌝ }
 {
-    let mut n = note_row(img, s, image::ROOT, image::ANCHORS, &mut *marks, &mut *list, 0);
+    let mut n = note_row(
+        img,
+        s,
+        image::ROOT,
+        image::ANCHORS,
+        &mut *marks,
+        &mut *list,
+        0,
+    );
     let mut at: usize = 0;
     while at < n {
         let j = wide(list[at]);
-        n = note_row(img, s, image::FRONT + image::STRIDE * j + 2, 4, &mut *marks, &mut *list, n);
+        n = note_row(
+            img,
+            s,
+            image::FRONT + image::STRIDE * j + 2,
+            4,
+            &mut *marks,
+            &mut *list,
+            n,
+        );
         at += 1;
     }
 }

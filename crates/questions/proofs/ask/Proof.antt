@@ -1,3 +1,4 @@
+-- `questions::ask` meets its contract. Assumes nothing.
 use Rattle.questions.proofs.Asking.{answer-so, answer-not}
 use Rattle.questions.proofs.Leading.{places}
 use Rattle.questions.proofs.Noting.{todo-first}
@@ -5,52 +6,37 @@ use native.Mathlib.Omega.{arith}
 use borrow.Author.Needs.{needs}
 use Rattle.questions.proofs.ask.Statement.{statement}
 use Rattle.questions.proofs.ask.Tie as tie
-use Rattle.questions.proofs.ask.Reads as reads
-use Rattle.questions.proofs.ask.Lts as lts
-use Rattle.questions.proofs.spread.Reads as spread-reads
-use Rattle.questions.proofs.zeros.Reads as zeros-reads
 
--- src/lib.rt:99:13
 cast-j : tie.Need-cast-j
 cast-j c = search needs
 
--- src/lib.rt:99:13
 mul-j : tie.Need-mul-j
 mul-j c = search needs
 
--- src/lib.rt:99:42
 cast-j-2 : tie.Need-cast-j-2
 cast-j-2 c = search needs
 
--- src/lib.rt:99:13
 add-j : tie.Need-add-j
 add-j c = search needs
 
--- src/lib.rt:100:21
 zeros-requires : tie.Need-zeros-requires
 zeros-requires c κs = search needs
 
--- src/lib.rt:101:20
 zeros-requires-2 : tie.Need-zeros-requires-2
 zeros-requires-2 c κs = search needs
 
--- src/lib.rt:102:5
 spread-requires : tie.Need-spread-requires
 spread-requires c κs = (c .before .before .before .before .before .before .before .pre .0, todo-first _ _ (c .before .before .before .zeros .ensures) (c .before .before .zeros2 .ensures))
 
--- src/lib.rt:103:8
 mul-if1 : tie.Need-mul-if1
 mul-if1 c = search needs
 
--- src/lib.rt:103:8
 array-read-if1 : tie.Need-array-read-if1
 array-read-if1 c = omega (arith, c .before .before .before .before .before .before .before .before .pre .1, places (c .before .before .before .before .before .before .before .before .pre .0))
 
--- src/lib.rt:104:9
 returns : tie.Need-returns
 returns c = answer-so (c .before .before .before .before .before .before .before .before .before .pre .0) _ (c .before .spread .ensures) _ (c .if1 .taken)
 
--- src/lib.rt:94:1
 returns-2 : tie.Need-returns-2
 returns-2 c = answer-not (c .before .before .before .before .before .before .before .before .before .pre .0) _ (c .before .spread .ensures) _ (c .if1 .left)
 

@@ -1,40 +1,30 @@
+-- `questions::field_at` meets its contract. Assumes nothing.
 use Rattle.model.specs.Image.{get, addr}
 use borrow.Author.Needs.{needs}
 use Rattle.questions.proofs.field_at.Statement.{statement}
 use Rattle.questions.proofs.field_at.Tie as tie
-use Rattle.questions.proofs.field_at.Reads as reads
-use Rattle.questions.proofs.field_at.Lts as lts
-use Rattle.kinds.proofs.target_of.Reads as target-of-reads
 
--- src/lib.rt:50:54
 mul-target-of : tie.Need-mul-target-of
 mul-target-of c = search needs
 
--- src/lib.rt:50:39
 add-target-of : tie.Need-add-target-of
 add-target-of c = search needs
 
--- src/lib.rt:50:39
 add-target-of-2 : tie.Need-add-target-of-2
 add-target-of-2 c = search needs
 
--- src/lib.rt:50:39
 add-target-of-3 : tie.Need-add-target-of-3
 add-target-of-3 c = search needs
 
--- src/lib.rt:50:35
 mul-target-of-2 : tie.Need-mul-target-of-2
 mul-target-of-2 c = search needs
 
--- src/lib.rt:50:35
 shared-slice-read-target-of : tie.Need-shared-slice-read-target-of
 shared-slice-read-target-of c = search needs
 
--- src/lib.rt:50:9
 target-of-requires : tie.Need-target-of-requires
 target-of-requires c κs = search needs
 
--- src/lib.rt:46:1
 returns : tie.Need-returns
 unfolding get addr
 returns c = λ i. record { target = c .target-of .ensures i }

@@ -1,66 +1,49 @@
+-- `questions::note` meets its contract. Assumes nothing.
 use Rattle.questions.proofs.Noting.{note-none, note-old, note-new, note-in, note-room}
-use Prim.Native.Nat.{_<_}
 use native.Mathlib.Omega.{arith}
 use borrow.Author.Needs.{needs}
 use Rattle.questions.proofs.note.Statement.{statement}
 use Rattle.questions.proofs.note.Tie as tie
-use Rattle.questions.proofs.note.Reads as reads
-use Rattle.questions.proofs.note.Lts as lts
-use Rattle.image.proofs.place_of.Reads as place-of-reads
 
--- src/lib.rt:40:13
 mul-w : tie.Need-mul-w
 mul-w c = search needs
 
--- src/lib.rt:40:13
 shared-slice-read-w : tie.Need-shared-slice-read-w
 shared-slice-read-w c = search needs
 
--- src/lib.rt:42:9
 returns : tie.Need-returns
 returns c = note-none (c .before .before .before .pre .1 .0) (c .before .before .before .pre .1 .1) (c .if1 .taken)
 
--- src/lib.rt:44:9
 place-of-requires : tie.Need-place-of-requires
 place-of-requires c κs = search needs
 
--- src/lib.rt:45:8
 mul-if2 : tie.Need-mul-if2
 mul-if2 c = omega (arith, note-in (c .before .before .before .before .pre .1 .0) (c .before .before .before .before .pre .1 .1) (c .before .if1 .left) _ (c .place-of .ensures))
 
--- src/lib.rt:45:8
 element-copy-out-if2 : tie.Need-element-copy-out-if2
 element-copy-out-if2 c = note-in (c .before .before .before .before .pre .1 .0) (c .before .before .before .before .pre .1 .1) (c .before .if1 .left) _ (c .place-of .ensures)
 
--- src/lib.rt:46:9
 returns-2 : tie.Need-returns-2
 returns-2 c = note-old (c .before .before .before .before .before .before .pre .1 .0) (c .before .before .before .before .before .before .pre .1 .1) (c .before .before .before .if1 .left) _ (c .before .before .place-of .ensures) (c .if2 .taken)
 
--- src/lib.rt:48:5
 mul-marks : tie.Need-mul-marks
 mul-marks c = omega (arith, note-in (c .before .before .before .before .before .before .pre .1 .0) (c .before .before .before .before .before .before .pre .1 .1) (c .before .before .before .if1 .left) _ (c .before .before .place-of .ensures))
 
--- src/lib.rt:48:5
 element-write-marks : tie.Need-element-write-marks
 element-write-marks c = note-in (c .before .before .before .before .before .before .pre .1 .0) (c .before .before .before .before .before .before .pre .1 .1) (c .before .before .before .if1 .left) _ (c .before .before .place-of .ensures)
 
--- src/lib.rt:49:15
 cast-list : tie.Need-cast-list
 cast-list c = omega (arith, note-in (c .before .before .before .before .before .before .pre .1 .0) (c .before .before .before .before .before .before .pre .1 .1) (c .before .before .before .if1 .left) _ (c .before .before .place-of .ensures))
 
--- src/lib.rt:49:5
 mul-list : tie.Need-mul-list
 mul-list c = omega (arith, note-room (c .before .before .before .before .before .before .pre .1 .0) (c .before .before .before .before .before .before .pre .1 .1) (c .before .before .before .if1 .left) _ (c .before .before .place-of .ensures) (c .if2 .left))
 
--- src/lib.rt:49:5
 element-write-list : tie.Need-element-write-list
 element-write-list c = note-room (c .before .before .before .before .before .before .pre .1 .0) (c .before .before .before .before .before .before .pre .1 .1) (c .before .before .before .if1 .left) _ (c .before .before .place-of .ensures) (c .if2 .left)
 
--- src/lib.rt:50:5
 add-result : tie.Need-add-result
 add-result c = omega (arith, note-room (c .before .before .before .before .before .before .pre .1 .0) (c .before .before .before .before .before .before .pre .1 .1) (c .before .before .before .if1 .left) _ (c .before .before .place-of .ensures) (c .if2 .left))
 
--- src/lib.rt:33:1
 returns-3 : tie.Need-returns-3
 returns-3 c = note-new (c .before .before .before .before .before .before .pre .1 .0) (c .before .before .before .before .before .before .pre .1 .1) (c .before .before .before .if1 .left) _ (c .before .before .place-of .ensures) (c .if2 .left)
 

@@ -1,13 +1,11 @@
+-- `questions::note_row` meets its contract. Assumes nothing.
 use Rattle.questions.proofs.Noting.{row-none, row-more, row-done}
 use Rattle.questions.specs.Todo.{NotedRow}
-use Prim.Native.Nat.{_<_, _≤_, _-_}
+use Prim.Native.Nat.{_≤_, _-_}
 use native.Mathlib.Omega.{arith}
 use borrow.Author.Needs.{needs}
 use Rattle.questions.proofs.note_row.Statement.{statement}
 use Rattle.questions.proofs.note_row.Tie as tie
-use Rattle.questions.proofs.note_row.Reads as reads
-use Rattle.questions.proofs.note_row.Lts as lts
-use Rattle.questions.proofs.note.Reads as note-reads
 
 abbrev Inv-loop : tie.InvT-loop
 Inv-loop img s from count marks₀ list₀ n end₀ i₀ marks list end i = (i ≤ count) × NotedRow s img from i marks₀ list₀ n marks list end
@@ -15,31 +13,24 @@ Inv-loop img s from count marks₀ list₀ n end₀ i₀ marks list end i = (i �
 abbrev μ-loop : tie.MeasureT-loop
 μ-loop img s from count marks₀ list₀ n end₀ i₀ marks list end i = count - i
 
--- src/lib.rt:71:5
 loop-holds : tie.Need-loop-holds Inv-loop μ-loop
 loop-holds c = (search needs, row-none _ (c .before .pre .1 .1))
 
--- src/lib.rt:72:28
 add-note : tie.Need-add-note Inv-loop μ-loop
 add-note c = omega (arith, c .before .before .before .pre .1 .0 (c .before .loop .i) (omega arith) .inside)
 
--- src/lib.rt:72:9
 note-requires : tie.Need-note-requires Inv-loop μ-loop
 note-requires c κs = (c .before .before .before .before .before .pre .0, (c .before .before .before .before .before .pre .1 .0 (c .before .before .before .loop .i) (omega arith), c .before .before .before .loop .inv .1 .more .todo))
 
--- src/lib.rt:73:9
 add-i : tie.Need-add-i Inv-loop μ-loop
 add-i c = search needs
 
--- src/lib.rt:71:5
 loop-less : tie.Need-loop-less Inv-loop μ-loop
 loop-less c = search needs
 
--- src/lib.rt:71:5
 loop-again : tie.Need-loop-again Inv-loop μ-loop
 loop-again c = (search needs, row-more (c .before .before .before .before .loop .inv .1) (c .note .ensures))
 
--- src/lib.rt:55:1
 returns : tie.Need-returns Inv-loop μ-loop
 returns c = row-done (omega arith) (c .before .loop .inv .1)
 

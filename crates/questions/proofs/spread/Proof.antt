@@ -1,14 +1,11 @@
+-- `questions::spread` meets its contract. Assumes nothing.
 use Rattle.questions.proofs.Leading.{Spreading, led-in, places, follow-root, follow-field, spreading-first, spreading-more, next-led, told}
 use Rattle.questions.proofs.Noting.{todo-most}
-use Prim.Native.Nat.{_<_, _≤_, _-_}
+use Prim.Native.Nat.{_-_}
 use native.Mathlib.Omega.{arith}
 use borrow.Author.Needs.{needs}
 use Rattle.questions.proofs.spread.Statement.{statement}
 use Rattle.questions.proofs.spread.Tie as tie
-use Rattle.questions.proofs.spread.Reads as reads
-use Rattle.questions.proofs.spread.Lts as lts
-use Rattle.questions.proofs.note_row.Reads as note-row-reads
-use Rattle.questions.proofs.wide.Reads as wide-reads
 
 abbrev Inv-loop : tie.InvT-loop
 Inv-loop img p s marks₀ list₀ n₀ at₀ marks list n at = Spreading s img marks list n at
@@ -16,55 +13,42 @@ Inv-loop img p s marks₀ list₀ n₀ at₀ marks list n at = Spreading s img m
 abbrev μ-loop : tie.MeasureT-loop
 μ-loop img p s marks₀ list₀ n₀ at₀ marks list n at = 1024 - at
 
--- src/lib.rt:84:9
 note-row-requires : tie.Need-note-row-requires Inv-loop μ-loop
 note-row-requires c κs = (c .before .before .before .pre .0 .wide, (follow-root (c .before .before .before .pre .0), c .before .before .before .pre .1))
 
--- src/lib.rt:86:5
 loop-holds : tie.Need-loop-holds Inv-loop μ-loop
 loop-holds c = spreading-first (c .note-row .ensures)
 
--- src/lib.rt:87:22
 mul-wide : tie.Need-mul-wide Inv-loop μ-loop
 mul-wide c = omega (arith, todo-most (c .before .loop .inv .todo))
 
--- src/lib.rt:87:22
 element-copy-out-wide : tie.Need-element-copy-out-wide Inv-loop μ-loop
 element-copy-out-wide c = omega (arith, todo-most (c .before .loop .inv .todo))
 
--- src/lib.rt:87:13
 wide-requires : tie.Need-wide-requires Inv-loop μ-loop
 wide-requires c κs = search needs
 
--- src/lib.rt:88:45
 mul-note-row : tie.Need-mul-note-row Inv-loop μ-loop
 mul-note-row c = omega (arith, led-in (c .before .before .before .before .before .before .before .before .pre .0) _ (next-led (c .before .before .before .loop .inv) (c .before .before .loop-test .taken) _ (c .wide .ensures)), places (c .before .before .before .before .before .before .before .before .pre .0))
 
--- src/lib.rt:88:30
 add-note-row : tie.Need-add-note-row Inv-loop μ-loop
 add-note-row c = omega (arith, led-in (c .before .before .before .before .before .before .before .before .pre .0) _ (next-led (c .before .before .before .loop .inv) (c .before .before .loop-test .taken) _ (c .wide .ensures)), places (c .before .before .before .before .before .before .before .before .pre .0))
 
--- src/lib.rt:88:30
 add-note-row-2 : tie.Need-add-note-row-2 Inv-loop μ-loop
 add-note-row-2 c = omega (arith, led-in (c .before .before .before .before .before .before .before .before .pre .0) _ (next-led (c .before .before .before .loop .inv) (c .before .before .loop-test .taken) _ (c .wide .ensures)), places (c .before .before .before .before .before .before .before .before .pre .0))
 
--- src/lib.rt:88:9
 note-row-requires-2 : tie.Need-note-row-requires-2 Inv-loop μ-loop
 note-row-requires-2 c κs = (c .before .before .before .before .before .before .before .before .before .before .pre .0 .wide, (follow-field (c .before .before .before .before .before .before .before .before .before .before .pre .0) _ (next-led (c .before .before .before .before .before .loop .inv) (c .before .before .before .before .loop-test .taken) _ (c .before .before .wide .ensures)), c .before .before .before .before .before .loop .inv .todo))
 
--- src/lib.rt:89:9
 add-at : tie.Need-add-at Inv-loop μ-loop
 add-at c = search needs
 
--- src/lib.rt:86:5
 loop-less : tie.Need-loop-less Inv-loop μ-loop
 loop-less c = omega (arith, todo-most (c .before .before .before .before .before .before .loop .inv .todo))
 
--- src/lib.rt:86:5
 loop-again : tie.Need-loop-again Inv-loop μ-loop
 loop-again c = spreading-more (c .before .before .before .before .before .before .loop .inv) (c .before .before .before .before .before .loop-test .taken) _ (c .before .before .before .wide .ensures) (c .note-row2 .ensures)
 
--- src/lib.rt:79:1
 returns : tie.Need-returns Inv-loop μ-loop
 returns c = told (c .loop-test .left) (c .before .loop .inv)
 
