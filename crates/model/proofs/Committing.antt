@@ -19,7 +19,7 @@ use Rattle.kinds.specs.declared.Operation.{Operation}
 use Rattle.kinds.specs.declared.Operation.the-variants.{New, Set, Val, Root}
 use Rattle.kinds.specs.declared.Verdict.{Verdict}
 use Rattle.kinds.specs.declared.Verdict.the-variants.{Accepted, Refused}
-use Rattle.model.specs.Image.{Image, Key, root, state, payload, field, phase, anchors, get, put, place, placeOf, Holder, a-root, a-field}
+use Rattle.model.specs.Image.{Image, Key, root, state, payload, field, phase, anchors, get, put, place, placeOf, refer, Holder, a-root, a-field}
 use Rattle.model.specs.Acts.{used, isOpen, mark, markWord, store, born, perform, performAll}
 use Rattle.model.specs.Judge.{check, andThen, inHeap, targetInHeap, targetUsed, judgeOp, judgeOps}
 use Rattle.model.proofs.Keys.{Sized, in-fits, get-put-apart, sized-put, get-put-same}
@@ -134,6 +134,11 @@ module _ (P S : ℕ) (shape : Shape P S) where
   pub shut-false : (x : Image) → Shut x → isOpen x ≡ false
   shut-false x sh = ne-eqb _ _ (λ e. let z : _≡_ {A = ℕ} 0 1 = sym (sh .shut) ∙ e in omega arith)
 
+  -- in a phase
+  pub store-open : (x : Image) (κ : Key) (t : Target) → Phase P S x → refer S (markWord S x (wordOf t)) κ (wordOf t) ≡ store S x κ t
+  unfolding store
+  store-open x κ t ph = rw (open-true P S shape x ph)
+
   -- a reference stored in a phase: its target is marked first
   pub record Stored (x : Image) (w : ℕ) (y : Image) : Type 0 where
     pub phase : Phase P S y
@@ -153,10 +158,9 @@ module _ (P S : ℕ) (shape : Shape P S) where
       (λ e. record { phase = ph; used = λ j u. u; marked = λ ne. absurd (ne e) })
 
   pub phase-store : (x : Image) (κ : Key) (t : Target) → Holder (P * S) κ → ((i k : ℕ) → κ ≡ field i k → get x (state i) ≢ 0) → May P S x t → Phase P S x → Phase P S (store S x κ t)
-  unfolding store
   phase-store x κ t h u m ph =
       let s = stored x t m ph in
-      rw (open-true P S shape x ph) (phase-refer P S shape _ κ (wordOf t) h (s .phase .linked .size) (λ j k e. s .used j (u j k e)) (s .marked) (s .phase))
+      subst (Phase P S) (store-open x κ t ph) (phase-refer P S shape _ κ (wordOf t) h (s .phase .linked .size) (λ j k e. s .used j (u j k e)) (s .marked) (s .phase))
 
   shut-store : (x : Image) (κ : Key) (t : Target) → Holder (P * S) κ → ((i k : ℕ) → κ ≡ field i k → get x (state i) ≢ 0) → May P S x t → Shut x → Shut (store S x κ t)
   unfolding store

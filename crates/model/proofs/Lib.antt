@@ -11,3 +11,6 @@ pub mod Making
 pub mod Reaching
 pub mod Refusing
 pub mod Bound
+pub mod Chaining
+pub mod Bits
+pub mod Asking

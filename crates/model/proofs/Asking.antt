@@ -1,0 +1,76 @@
+-- The question's answer is yes exactly where a root leads to the object.
+-- Assumes nothing.
+use Prim.Native.Nat.{ℕ, _*_, _<_}
+use mathlib.Core.Path.{_≡_, refl, subst}
+use mathlib.Core.Bool.{true}
+use mathlib.Core.Logic.{⊎-elim}
+use lib.ListN.{replicate}
+use borrow.Author.Tests.{eqb-false, ne-eqb, not-true}
+use Rattle.model.specs.Image.{Image, Key, root, field, anchors, get, placeOf, Holder, a-root, a-field}
+use Rattle.model.specs.Spread.{Reach, start, step}
+use Rattle.model.specs.Questions.{hasBit, addBit, held, rootBits, reachedBits, ask}
+use Rattle.model.specs.Chains.{Names, Leads}
+use Rattle.model.proofs.Spreading.{Spreads, Edge, complete, least}
+use Rattle.model.proofs.Moves.{Linked}
+use Rattle.model.proofs.Bits.{Wide, none-wide, none-has, bit-spreads, collect-wide, collect-only, collect-has}
+
+module _ (P S : ℕ) (x : Image) (w : Linked P S x) where
+  pub held-is : (κ : Key) → held x κ ≡ true → Names S x κ (placeOf S (get x κ))
+  held-is κ e = record { some = eqb-false _ _ (not-true _ e); target = refl }
+
+  pub held-so : (κ : Key) (t : ℕ) → Names S x κ t → held x κ ≡ true
+  held-so κ t n = rw (ne-eqb (get x κ) 0 (n .some))
+
+  pub named-in : (κ : Key) → Holder (P * S) κ → (t : ℕ) → Names S x κ t → t < P * S
+  named-in κ h t n = rw (← n .target) (w .refs κ h (n .some) .0)
+
+  root-in : (r : ℕ) → r < anchors → held x (root r) ≡ true → placeOf S (get x (root r)) < P * S
+  root-in r l e = named-in (root r) (a-root l) _ (held-is (root r) e)
+
+  -- the start: what the roots name
+  pub begun : (t : ℕ) → hasBit (rootBits S x (P * S)) t ≡ true → (r : ℕ) × (r < anchors) × Names S x (root r) t
+  unfolding rootBits
+  begun t h =
+      ⊎-elim (λ z. absurd (none-has (P * S) t z)) (λ q. (q .0, q .1, rw (q .3) at (held-is (root (q .0)) (q .2))))
+      (collect-only (P * S) (λ r. held x (root r)) (λ r. placeOf S (get x (root r))) anchors (replicate (P * S) 0) t h)
+
+  pub begins : (r t : ℕ) → r < anchors → Names S x (root r) t → hasBit (rootBits S x (P * S)) t ≡ true
+  unfolding rootBits
+  begins r t l n =
+      rw (n .target) at
+      (collect-has (P * S) (λ r. held x (root r)) (λ r. placeOf S (get x (root r))) anchors root-in (replicate (P * S) 0) r (none-wide (P * S)) l (held-so (root r) t n))
+
+  pub begun-wide : Wide (P * S) (rootBits S x (P * S))
+  unfolding rootBits
+  begun-wide = collect-wide (P * S) (λ r. held x (root r)) (λ r. placeOf S (get x (root r))) anchors (replicate (P * S) 0) (none-wide (P * S))
+
+  bits : Spreads hasBit addBit (λ b i k. held x (field i k)) (λ b i k. placeOf S (get x (field i k))) (λ j. j) (P * S) 4 (Wide (P * S)) (λ b t. t < P * S)
+  bits = bit-spreads (P * S) (λ i k. held x (field i k)) (λ i k. placeOf S (get x (field i k))) (λ j. j) (P * S) 4 (λ j k l m e. named-in (field j k) (a-field l m) _ (held-is (field j k) e))
+
+  ReachedBit : ℕ → Type 0
+  ReachedBit = Reach (λ v. hasBit (rootBits S x (P * S)) v ≡ true) (Edge hasBit addBit (λ b i k. held x (field i k)) (λ b i k. placeOf S (get x (field i k))) (λ j. j) (P * S) 4 (rootBits S x (P * S)))
+
+  to : (i : ℕ) → Leads S x i → (i < P * S) × ReachedBit i
+  unfolding ReachedBit
+  to i (start c) = (named-in (root (c .0)) (a-root (c .1)) i (c .2), start (begins (c .0) i (c .1) (c .2)))
+  to i (step {i = j} c e) =
+      let r = to j c in (
+        named-in (field j (e .0)) (a-field (r .0) (e .1)) i (e .2),
+        step (r .1) (j, e .0, r .0, e .1, refl, held-so (field j (e .0)) i (e .2), e .2 .target),
+      )
+
+  fro : (i : ℕ) → ReachedBit i → Leads S x i
+  unfolding ReachedBit
+  fro i (start h) = start (begun i h)
+  fro i (step {i = j} c e) =
+      step (fro j c) (e .1, e .3, subst (λ (v : ℕ). Names S x (field v (e .1)) i) (e .4) (record { some = eqb-false _ _ (not-true _ (e .5)); target = e .6 }))
+
+  pub ask-so : (i : ℕ) → Leads S x i → ask P S x i ≡ true
+  unfolding ask reachedBits ReachedBit
+  ask-so i l =
+      complete hasBit addBit _ _ (λ j. j) (P * S) 4 (Wide (P * S)) (λ b t. t < P * S) bits (λ i j l m q. q)
+      (λ b j k w l m e. (placeOf S (get x (field j k)), bits .inside b j k w l m e, refl)) (rootBits S x (P * S)) i begun-wide (to i l .1)
+
+  pub ask-only : (i : ℕ) → ask P S x i ≡ true → Leads S x i
+  unfolding ask reachedBits ReachedBit
+  ask-only i e = fro i (least hasBit addBit _ _ (λ j. j) (P * S) 4 (Wide (P * S)) (λ b t. t < P * S) bits (rootBits S x (P * S)) begun-wide i e)
