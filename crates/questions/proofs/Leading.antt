@@ -2,17 +2,19 @@
 -- Assumes nothing.
 use Prim.Native.Nat.{ℕ, _+_, _*_, _≤_, _<_}
 use mathlib.Core.Path.{_≡_, refl, sym, ap, _∙_, subst}
-use mathlib.Core.Bool.{true}
+use mathlib.Core.Bool.{true, false}
 use mathlib.Core.Logic.{_≢_, ⊎-elim}
 use mathlib.Core.List.{List}
 use native.Mathlib.Omega.{arith}
 use lib.ListN.{length, getD}
-use Rattle.loops.proofs.Tests.{eq-or-ne}
+use borrow.Author.Tests.{eq-eqb, ne-eqb}
+use Rattle.loops.proofs.Tests.{eq-or-ne, clash, is-false}
 use Rattle.kinds.specs.Names.{mostPartitions}
 use Rattle.model.specs.Image.{Image, Key, root, field, anchors, front, stride, addr, get, placeOf, Holder, a-root, a-field}
 use Rattle.model.specs.Spread.{start, step}
-use Rattle.model.specs.Questions.{Bits, hasBit}
+use Rattle.model.specs.Questions.{Bits, hasBit, ask}
 use Rattle.model.specs.Chains.{Names, Leads}
+use Rattle.model.proofs.Asking.{named-in, ask-so, ask-only}
 use Rattle.image.specs.Within.{Within}
 use Rattle.image.proofs.Within.{product}
 use Rattle.questions.specs.Todo.{most, Todo, More, Follows, NotedAt, NotedRow, Told}
@@ -22,13 +24,10 @@ module _ {P S : ℕ} {x : Image} (w : Within P S x) where
   pub places : P * S ≤ most
   places = product mostPartitions P S (w .small) (w .wide)
 
-  pub named-in : (κ : Key) (j : ℕ) → Holder (P * S) κ → Names S x κ j → j < P * S
-  named-in κ j h m = subst (λ (v : ℕ). v < P * S) (m .target) (w .refs κ h (m .some))
-
   -- a root leads to places of the image only
   pub led-in : (j : ℕ) → Leads S x j → j < P * S
-  led-in j (start c) = named-in (root (c .0)) j (a-root (c .1)) (c .2)
-  led-in j (step {i = i} c e) = named-in (field i (e .0)) j (a-field (led-in i c) (e .1)) (e .2)
+  led-in j (start c) = named-in P S x (w .refs) (root (c .0)) (a-root (c .1)) j (c .2)
+  led-in j (step {i = i} c e) = named-in P S x (w .refs) (field i (e .0)) (a-field (led-in i c) (e .1)) j (e .2)
 
   pub follow-root : (r : ℕ) → r < anchors → Follows S x (5 + r)
   unfolding get addr
@@ -94,3 +93,13 @@ module _ {S : ℕ} {x : Image} where
 
     pub told : Told S x m
     told = record { so = told-so; only = λ j h. let q = p .todo .listed j h in subst (Leads S x) (q .2) (p .todo .reached (q .0) (q .1)) }
+
+-- where exactly the places to which a root leads are noted, a mark is the model's answer
+module _ {P S : ℕ} {x : Image} (w : Within P S x) (m : Bits) (t : Told S x m) (j : ℕ) where
+  pub answer-so : getD m j 0 ≡ 1 → true ≡ ask P S x j
+  unfolding hasBit
+  answer-so e = sym (ask-so P S x (w .refs) j (t .only j (eq-eqb _ _ e)))
+
+  pub answer-not : getD m j 0 ≢ 1 → false ≡ ask P S x j
+  unfolding hasBit
+  answer-not ne = sym (is-false (ask P S x j) (λ e. clash (t .so j (ask-only P S x (w .refs) j e)) (ne-eqb _ _ ne)))

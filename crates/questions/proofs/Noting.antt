@@ -10,12 +10,12 @@ use lib.ListN.{length, getD, set, replicate, length-set, length-replicate}
 use lib.Seq.{getD-set-same, getD-set-other}
 use borrow.Author.Tests.{eqb-true, eq-eqb, ne-eqb}
 use Rattle.loops.specs.Loop.{tally, bit}
-use Rattle.loops.proofs.Tests.{eq-or-ne, clash}
+use Rattle.loops.proofs.Tests.{eq-or-ne, is-false}
 use Rattle.loops.proofs.Loops.{tally-le, tally-move}
 use Rattle.model.specs.Image.{Image, placeOf}
 use Rattle.model.specs.Questions.{Bits, hasBit, addBit}
 use Rattle.model.specs.Chains.{Leads}
-use Rattle.questions.proofs.Bitting.{none-has, bit-same, bit-other, bit-wide, bit-stays}
+use Rattle.model.proofs.Bits.{Wide, none-has, bit-same, bit-other, bit-wide, bit-stays}
 use Rattle.questions.specs.Todo.{most, Todo, More, Follows, NotedAt, NotedRow, Told}
 
 module _ {S : ℕ} {img : Image} {marks : Bits} {list : List ℕ} {n : ℕ} (t : Todo S img marks list n) where
@@ -27,11 +27,12 @@ module _ {S : ℕ} {img : Image} {marks : Bits} {list : List ℕ} {n : ℕ} (t :
 
   module _ (j : ℕ) (l : j < most) (new : hasBit marks j ≡ false) where
     counted-more : n + 1 ≡ tally most (hasBit (addBit marks j))
+    unfolding Wide
     counted-more =
         let b : bit (hasBit marks j) ≡ 0 = rw new in
         let b' : bit (hasBit (addBit marks j) j) ≡ 1 = rw (bit-same most marks j (t .wide) l) in
         let m : tally most (hasBit (addBit marks j)) + bit (hasBit marks j) ≡ tally most (hasBit marks) + bit (hasBit (addBit marks j) j) =
-        tally-move most (hasBit marks) (hasBit (addBit marks j)) j l (λ i k ne. sym (bit-other most marks j i ne)) in
+        tally-move most (hasBit marks) (hasBit (addBit marks j)) j l (λ i k ne. sym (bit-other most marks j i (λ q. ne (sym q)))) in
         omega (arith, t .counted)
 
     -- a place that is not noted has room in the list
@@ -39,6 +40,7 @@ module _ {S : ℕ} {img : Image} {marks : Bits} {list : List ℕ} {n : ℕ} (t :
     room = omega (arith, counted-more, tally-le most (hasBit (addBit marks j)))
 
     pub more-one : Leads S img j → More S img marks list n (addBit marks j) (set list n j) (n + 1)
+    unfolding Wide
     more-one led =
         record {
           todo =
@@ -46,11 +48,11 @@ module _ {S : ℕ} {img : Image} {marks : Bits} {list : List ℕ} {n : ℕ} (t :
                 wide = bit-wide most marks j (t .wide);
                 long = length-set list n j ∙ t .long;
                 counted = counted-more;
-                listed = λ i h. ⊎-elim (λ q. (n, omega arith, at-end ∙ sym q)) (λ ne. old i (t .listed i (sym (bit-other most marks j i ne) ∙ h))) (eq-or-ne i j);
+                listed = λ i h. ⊎-elim (λ q. (n, omega arith, at-end ∙ q)) (λ ne. old i (t .listed i (sym (bit-other most marks j i ne) ∙ h))) (eq-or-ne j i);
                 reached = λ i k. ⊎-elim (λ q. subst (Leads S img) (sym (ap (λ (v : ℕ). getD (set list n j) v 0) q ∙ at-end)) led) (λ ne. subst (Leads S img) (sym (before i ne)) (t .reached i (omega arith))) (eq-or-ne i n);
               };
           longer = omega arith;
-          marked = bit-stays most marks j (t .wide) l;
+          marked = λ i h. bit-stays most marks j i (t .wide) l h;
           kept = λ i k. before i (λ q. omega arith);
         }
       where
@@ -84,8 +86,8 @@ todo-first m l e q =
     (record {
       wide = length-replicate {A = ℕ} most 0;
       long = length-replicate {A = ℕ} most 0;
-      counted = tally-empty most _ (λ i k. none-has most i);
-      listed = λ j h. absurd (clash h (none-has most j));
+      counted = tally-empty most _ (λ i k. is-false _ (none-has most i));
+      listed = λ j h. absurd (none-has most j h);
       reached = λ i k. absurd (omega arith);
     })
 
@@ -111,7 +113,7 @@ module _ {S : ℕ} {img : Image} {a : ℕ} {marks : Bits} {list : List ℕ} {n :
     note-room h = room t j note-in (unmarked h)
 
     pub note-new : getD marks j 0 ≢ 1 → More S img marks list n (set marks j 1) (set list n j) (n + 1) × NotedAt S img (set marks j 1) a
-    unfolding NotedAt addBit
+    unfolding NotedAt addBit Wide
     note-new h = (more-one t j note-in (unmarked h) (rw e (f .led some)), λ ne. rw (← e) (bit-same most marks j (t .wide) note-in))
 
 -- a row, word by word
