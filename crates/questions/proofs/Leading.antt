@@ -6,18 +6,18 @@ use mathlib.Core.Bool.{true, false}
 use mathlib.Core.Logic.{_≢_, ⊎-elim}
 use mathlib.Core.List.{List}
 use native.Mathlib.Omega.{arith}
-use lib.ListN.{length, getD}
+use lib.ListN.{getD}
 use borrow.Author.Tests.{eq-eqb, ne-eqb}
 use Rattle.loops.proofs.Tests.{eq-or-ne, clash, is-false}
 use Rattle.kinds.specs.Names.{mostPartitions}
-use Rattle.model.specs.Image.{Image, Key, root, field, anchors, front, stride, addr, get, placeOf, Holder, a-root, a-field}
+use Rattle.model.specs.Image.{Image, Key, root, field, anchors, front, stride, addr, get, a-root, a-field}
 use Rattle.model.specs.Spread.{start, step}
 use Rattle.model.specs.Questions.{Bits, hasBit, ask}
 use Rattle.model.specs.Chains.{Names, Leads}
 use Rattle.model.proofs.Asking.{named-in, ask-so, ask-only}
 use Rattle.image.specs.Within.{Within}
 use Rattle.image.proofs.Within.{product}
-use Rattle.questions.specs.Todo.{most, Todo, More, Follows, NotedAt, NotedRow, Told}
+use Rattle.questions.specs.Todo.{most, Todo, Follows, NotedAt, NotedRow, Told}
 use Rattle.questions.proofs.Noting.{noted-stays}
 
 module _ {P S : ℕ} {x : Image} (w : Within P S x) where
@@ -61,16 +61,17 @@ pub record Spreading (S : ℕ) (x : Image) (marks : Bits) (list : List ℕ) (n a
   pub fields : (i : ℕ) → i < at → (k : ℕ) → k < 4 → NotedAt S x marks (front + stride * getD list i 0 + 2 + k)
 
 module _ {S : ℕ} {x : Image} where
-  pub spreading-first : {m l m' l' : List ℕ} {n : ℕ} → NotedRow S x 5 anchors m l 0 m' l' n → Spreading S x m' l' n 0
-  spreading-first r = record { todo = r .more .todo; within = omega arith; roots = r .noted; fields = λ i h. absurd (omega arith) }
+  pub spreading-first : {m l m' l' : List ℕ} {n count : ℕ} → anchors ≤ count → NotedRow S x 5 count m l 0 m' l' n → Spreading S x m' l' n 0
+  spreading-first le r = record { todo = r .more .todo; within = omega arith; roots = λ i h. r .noted i (omega arith); fields = λ i h. absurd (omega arith) }
 
   module _ {m l : List ℕ} {n at : ℕ} (p : Spreading S x m l n at) (h : at < n) (j : ℕ) (e : j ≡ getD l at 0) where
     -- the next place of the list
     pub next-led : Leads S x j
     next-led = rw e (p .todo .reached at h)
 
-    pub spreading-more : {m' l' : List ℕ} {n' : ℕ} → NotedRow S x (front + stride * j + 2) 4 m l n m' l' n' → Spreading S x m' l' n' (at + 1)
-    spreading-more {m' = m'} r =
+    pub spreading-more : {m' l' : List ℕ} {n' count : ℕ} → 4 ≤ count → NotedRow S x (front + stride * j + 2) count m l n m' l' n'
+        → Spreading S x m' l' n' (at + 1)
+    spreading-more {m' = m'} le r =
         record {
           todo = r .more .todo;
           within = omega (arith, r .more .longer);
@@ -78,7 +79,7 @@ module _ {S : ℕ} {x : Image} where
           fields =
               λ i g k b.
               subst (λ (v : ℕ). NotedAt S x m' (front + stride * v + 2 + k)) (sym (r .more .kept i (omega arith)))
-              (⊎-elim (λ q. subst (λ (v : ℕ). NotedAt S x m' (front + stride * v + 2 + k)) (e ∙ ap (λ (v : ℕ). getD l v 0) (sym q)) (r .noted k b))
+              (⊎-elim (λ q. subst (λ (v : ℕ). NotedAt S x m' (front + stride * v + 2 + k)) (e ∙ ap (λ (v : ℕ). getD l v 0) (sym q)) (r .noted k (omega arith)))
               (λ ne. noted-stays (front + stride * getD l i 0 + 2 + k) (r .more) (p .fields i (omega arith) k b)) (eq-or-ne i at));
         }
 

@@ -1,27 +1,25 @@
 -- The judge of a name, check by check; what it accepts has its place in the image; and a record from its parts.
 -- Assumes nothing.
 use Prim.Native.Nat.{ℕ, _+_, _*_, _≤_, _<_}
-use mathlib.Core.Path.{_≡_, refl, sym}
-use mathlib.Core.Bool.{Bool, true, false, not}
+use mathlib.Core.Path.{_≡_, refl}
+use mathlib.Core.Bool.{Bool, true, false}
 use mathlib.Core.Logic.{_≢_}
 use mathlib.Core.List.{List, [], _∷_}
 use native.Mathlib.Omega.{arith}
 use lib.Arith.{digits-lt}
-use lib.Dec.{eqb, ltb}
-use lib.ListN.{length, getD}
+use lib.Dec.{ltb}
+use lib.ListN.{getD}
 use borrow.Author.Tests.{ltb-true, lt-ltb, le-ltb, eq-eqb, ne-eqb}
-use Rattle.loops.specs.Loop.{both}
 use Rattle.loops.proofs.Tests.{both-true, both-false}
 use Rattle.kinds.specs.Answers.{refuse}
 use Rattle.kinds.specs.declared.Name.{Name}
 use Rattle.kinds.specs.declared.Field.{Field}
 use Rattle.kinds.specs.declared.Record.{Record}
 use Rattle.kinds.specs.declared.Verdict.{Verdict}
-use Rattle.kinds.specs.declared.Verdict.the-variants.{Accepted, Refused}
+use Rattle.kinds.specs.declared.Verdict.the-variants.{Accepted}
 use Rattle.model.specs.Image.{Image, payload, front, stride, addr, get, place}
 use Rattle.model.specs.Judge.{judgeName, check, inHeap}
 use Rattle.model.specs.Questions.{fieldOf, readOf}
-use Rattle.image.specs.Within.{Within}
 
 module _ (P S : ℕ) (x : Image) (n : Name) where
   pub judge-partition : P ≤ n .partition .0 → refuse 7 0 ≡ judgeName P S x n
@@ -50,7 +48,7 @@ module _ (P S : ℕ) (x : Image) (n : Name) where
       go true q v e = let h = both-true (ltb (n .partition .0) P) (ltb (n .slot .0) S) q in digits-lt (ltb-true _ _ (h .0)) (ltb-true _ _ (h .1))
       go false q v e = let z : _≡_ {A = ℕ} 0 1 = cc in absurd (omega arith)
 
-pub made : (x : Image) (j : ℕ) (a b c d : Field) → a ≡ fieldOf x j 0 → b ≡ fieldOf x j 1 → c ≡ fieldOf x j 2 → d ≡ fieldOf x j 3
-    → _≡_ {A = Record} (record { payload = getD x (front + stride * j + 1) 0; fields = a ∷ b ∷ c ∷ d ∷ [] }) (readOf x j)
+pub made : (x : Image) (j : ℕ) (l : List Field) → l ≡ fieldOf x j 0 ∷ fieldOf x j 1 ∷ fieldOf x j 2 ∷ fieldOf x j 3 ∷ []
+    → _≡_ {A = Record} (record { payload = getD x (front + stride * j + 1) 0; fields = l }) (readOf x j)
 unfolding readOf get addr
-made x j a b c d p q r s = λ i. record { payload = getD x (front + stride * j + 1) 0; fields = p i ∷ q i ∷ r i ∷ s i ∷ [] }
+made x j l e = λ i. record { payload = getD x (front + stride * j + 1) 0; fields = e i }

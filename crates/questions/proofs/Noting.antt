@@ -6,17 +6,17 @@ use mathlib.Core.Bool.{Bool, true, false}
 use mathlib.Core.Logic.{_≢_, ⊎-elim}
 use mathlib.Core.List.{List}
 use native.Mathlib.Omega.{arith}
-use lib.ListN.{length, getD, set, replicate, length-set, length-replicate}
+use lib.ListN.{getD, set, replicate, length-set, length-replicate}
 use lib.Seq.{getD-set-same, getD-set-other}
-use borrow.Author.Tests.{eqb-true, eq-eqb, ne-eqb}
+use borrow.Author.Tests.{eq-eqb, ne-eqb}
 use Rattle.loops.specs.Loop.{tally, bit}
-use Rattle.loops.proofs.Tests.{eq-or-ne, is-false}
+use Rattle.loops.proofs.Tests.{eq-or-ne, is-false, clash}
 use Rattle.loops.proofs.Loops.{tally-le, tally-move}
 use Rattle.model.specs.Image.{Image, placeOf}
 use Rattle.model.specs.Questions.{Bits, hasBit, addBit}
 use Rattle.model.specs.Chains.{Leads}
 use Rattle.model.proofs.Bits.{Wide, none-has, bit-same, bit-other, bit-wide, bit-stays}
-use Rattle.questions.specs.Todo.{most, Todo, More, Follows, NotedAt, NotedRow, Told}
+use Rattle.questions.specs.Todo.{most, Todo, More, Follows, NotedAt, NotedRow}
 
 module _ {S : ℕ} {img : Image} {marks : Bits} {list : List ℕ} {n : ℕ} (t : Todo S img marks list n) where
   pub more-none : More S img marks list n marks list n
@@ -49,7 +49,16 @@ module _ {S : ℕ} {img : Image} {marks : Bits} {list : List ℕ} {n : ℕ} (t :
                 long = length-set list n j ∙ t .long;
                 counted = counted-more;
                 listed = λ i h. ⊎-elim (λ q. (n, omega arith, at-end ∙ q)) (λ ne. old i (t .listed i (sym (bit-other most marks j i ne) ∙ h))) (eq-or-ne j i);
-                reached = λ i k. ⊎-elim (λ q. subst (Leads S img) (sym (ap (λ (v : ℕ). getD (set list n j) v 0) q ∙ at-end)) led) (λ ne. subst (Leads S img) (sym (before i ne)) (t .reached i (omega arith))) (eq-or-ne i n);
+                noted = ends (λ v. hasBit (addBit marks j) v ≡ true) (bit-same most marks j (t .wide) l) (λ i h. bit-stays most marks j _ (t .wide) l (t .noted i h));
+                once =
+                    λ i k a b q.
+                    ⊎-elim
+                    (λ e. ⊎-elim (λ d. e ∙ sym d) (λ ne. absurd (fresh k (omega arith) (sym (at e) ∙ q ∙ before k ne))) (eq-or-ne k n))
+                    (λ ne.
+                    ⊎-elim (λ d. absurd (fresh i (omega arith) (sym (at d) ∙ sym q ∙ before i ne)))
+                    (λ nd. t .once i k (omega arith) (omega arith) (sym (before i ne) ∙ q ∙ before k nd)) (eq-or-ne k n))
+                    (eq-or-ne i n);
+                reached = ends (Leads S img) led (t .reached);
               };
           longer = omega arith;
           marked = λ i h. bit-stays most marks j i (t .wide) l h;
@@ -59,11 +68,21 @@ module _ {S : ℕ} {img : Image} {marks : Bits} {list : List ℕ} {n : ℕ} (t :
         at-end : getD (set list n j) n 0 ≡ j
         at-end = getD-set-same list n j 0 (omega (arith, room, t .long))
 
+        at : {i : ℕ} → i ≡ n → getD (set list n j) i 0 ≡ j
+        at q = ap (λ (v : ℕ). getD (set list n j) v 0) q ∙ at-end
+
         before : (i : ℕ) → i ≢ n → getD (set list n j) i 0 ≡ getD list i 0
         before i ne = getD-set-other list n i j 0 ne
 
         old : (i : ℕ) → (k : ℕ) × (k < n) × (getD list k 0 ≡ i) → (k : ℕ) × (k < n + 1) × (getD (set list n j) k 0 ≡ i)
         old i w = (w .0, omega arith, before (w .0) (λ q. omega arith) ∙ w .2)
+
+        -- what holds of the new place and of each in the list holds of each in the new list
+        ends : (Q : ℕ → Type 0) → Q j → ((i : ℕ) → i < n → Q (getD list i 0)) → (i : ℕ) → i < n + 1 → Q (getD (set list n j) i 0)
+        ends Q new rest i k = ⊎-elim (λ q. subst Q (sym (at q)) new) (λ ne. subst Q (sym (before i ne)) (rest i (omega arith))) (eq-or-ne i n)
+
+        fresh : (k : ℕ) → k < n → j ≡ getD list k 0 → ⊥
+        fresh k h q = clash (subst (λ (v : ℕ). hasBit marks v ≡ true) (sym q) (t .noted k h)) new
 
 pub more-then : {S : ℕ} {img : Image} {a b c k l m : List ℕ} {x y z : ℕ} → More S img a k x b l y → More S img b l y c m z → More S img a k x c m z
 more-then p q =
@@ -88,6 +107,8 @@ todo-first m l e q =
       long = length-replicate {A = ℕ} most 0;
       counted = tally-empty most _ (λ i k. is-false _ (none-has most i));
       listed = λ j h. absurd (none-has most j h);
+      noted = λ i k. absurd (omega arith);
+      once = λ i k a. absurd (omega arith);
       reached = λ i k. absurd (omega arith);
     })
 

@@ -14,12 +14,14 @@ use Rattle.model.specs.Chains.{Leads}
 abbrev pub most : ℕ
 most = 1024
 
--- n places are noted, each of them is in the list, and a root leads to each in the list
+-- n places are noted, the list has each of them once and nothing else, and a root leads to each
 pub record Todo (S : ℕ) (img : Image) (marks : Bits) (list : List ℕ) (n : ℕ) : Type 0 where
   pub wide : length marks ≡ most
   pub long : length list ≡ most
   pub counted : n ≡ tally most (hasBit marks)
   pub listed : (j : ℕ) → hasBit marks j ≡ true → (i : ℕ) × (i < n) × (getD list i 0 ≡ j)
+  pub noted : (i : ℕ) → i < n → hasBit marks (getD list i 0) ≡ true
+  pub once : (i k : ℕ) → i < n → k < n → getD list i 0 ≡ getD list k 0 → i ≡ k
   pub reached : (i : ℕ) → i < n → Leads S img (getD list i 0)
 
 -- more is noted: what was noted is, and the list has what it had where it was

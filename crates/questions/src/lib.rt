@@ -1,7 +1,8 @@
 // The questions on an image: read an object, and ask whether a root leads to it. Both leave the image as found.
-// `judge_name` says 7 or 9, `read` answers the record, and `ask` says yes exactly where the model's `ask` does: its contract is that equation.
-// `ask` is a to-do list: a place is noted once, when a root or a field of a noted place is found to name it (specs/Todo.antt), and
-// proofs/Noting.antt shows that at the end exactly the places to which a root leads are noted.
+// `judge_name` says 7 or 9, `read` answers the record, and `ask` says yes exactly where the model's `ask` does: each contract is that equation.
+// `ask` keeps a to-do list (specs/Todo.antt): a place is noted once, when a root or a field of a noted place is found to name it. That at
+// the end exactly the places to which a root leads are noted is `told`, and that this is the model's answer `answer-so` and `answer-not`, in
+// proofs/Leading.antt. What an accepted name tells the caller of `read` and `ask` is `accepted-in` in proofs/Naming.antt.
 use kinds::Field;
 use kinds::Name;
 use kinds::Record;
@@ -9,7 +10,7 @@ use kinds::Refusal;
 use kinds::Verdict;
 ghost use mathlib.Core.Path.{_≡_};
 ghost use Prim.Native.Nat.{ℕ, _+_, _*_, _^_, _≤_, _<_};
-ghost use lib.ListN.{length, getD, replicate};
+ghost use lib.ListN.{length, replicate};
 ghost use Rattle.kinds.specs.Names.{mostSlots};
 ghost use Rattle.model.specs.Image.{place, front, stride};
 ghost use Rattle.model.specs.Judge.{judgeName};
