@@ -1,3 +1,4 @@
+-- `vectors::walk` meets its contract. Assumes nothing.
 use Rattle.lines.proofs.Bodies.{step-on}
 use lib.ListN.{length}
 use mathlib.Core.Path.{sym, _∙_}
@@ -6,13 +7,6 @@ use Prim.Native.Nat.{_-_}
 use borrow.Author.Needs.{needs}
 use Rattle.vectors.proofs.walk.Statement.{statement}
 use Rattle.vectors.proofs.walk.Tie as tie
-use Rattle.vectors.proofs.walk.Reads as reads
-use Rattle.vectors.proofs.walk.Lts as lts
-use Rattle.lines.proofs.cursor.Cursor.new.Reads as new-reads
-use Rattle.lines.proofs.cursor.Cursor.next.Reads as next-reads
-use Rattle.vectors.proofs.place.Reads as place-reads
-use Rattle.vectors.proofs.say.Reads as say-reads
-use Rattle.vectors.proofs.show.Reads as show-reads
 
 abbrev Inv-loop : tie.InvT-loop
 Inv-loop log c₀ t6 t7 c = Unit {0}
@@ -20,64 +14,49 @@ Inv-loop log c₀ t6 t7 c = Unit {0}
 abbrev μ-loop : tie.MeasureT-loop
 μ-loop log c₀ t6 t7 c = length log - c .at
 
--- src/main.rt:86:9
 new-requires : tie.Need-new-requires Inv-loop μ-loop
 new-requires c κs = search needs
 
--- src/main.rt:87:5
 loop-holds : tie.Need-loop-holds Inv-loop μ-loop
 loop-holds c = search needs
 
--- src/main.rt:88:9
 place-requires : tie.Need-place-requires Inv-loop μ-loop
 place-requires c κs = search needs
 
--- src/main.rt:89:15
 next-requires : tie.Need-next-requires Inv-loop μ-loop
 next-requires c κs = search needs
 
--- src/main.rt:90:24
 enum-known-l : tie.Need-enum-known-l Inv-loop μ-loop
 enum-known-l c = search needs
 
--- src/main.rt:91:17
 show-requires : tie.Need-show-requires Inv-loop μ-loop
 show-requires c κs = search needs
 
--- src/main.rt:87:5
 loop-less : tie.Need-loop-less Inv-loop μ-loop
 loop-less c = let e = step-on _ _ _ _ (sym (c .before .before .l .given .1) ∙ c .before .before .before .before .next .ensures) in
     omega arith
 
--- src/main.rt:87:5
 loop-again : tie.Need-loop-again Inv-loop μ-loop
 loop-again c = search needs
 
--- src/main.rt:94:24
 enum-known-n : tie.Need-enum-known-n Inv-loop μ-loop
 enum-known-n c = search needs
 
--- src/main.rt:95:21
 slice-aggregate-say : tie.Need-slice-aggregate-say Inv-loop μ-loop
 slice-aggregate-say c = search needs
 
--- src/main.rt:95:17
 say-requires : tie.Need-say-requires Inv-loop μ-loop
 say-requires c κs = search needs
 
--- src/main.rt:96:17
 place-requires-2 : tie.Need-place-requires-2 Inv-loop μ-loop
 place-requires-2 c κs = search needs
 
--- src/main.rt:97:21
 slice-aggregate-say-2 : tie.Need-slice-aggregate-say-2 Inv-loop μ-loop
 slice-aggregate-say-2 c = search needs
 
--- src/main.rt:97:17
 say-requires-2 : tie.Need-say-requires-2 Inv-loop μ-loop
 say-requires-2 c κs = search needs
 
--- src/main.rt:98:17
 returns : tie.Need-returns Inv-loop μ-loop
 returns c = search needs
 
