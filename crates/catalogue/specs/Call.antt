@@ -98,8 +98,8 @@ judgeObject img n = check (isSound img) 1 0 (judgeName (get img partitions) (get
 
 -- refused: payload 0 and four nothings
 abbrev pub reading : Verdict → Record → Reading
-reading Accepted r = record { verdict = Accepted; record = r }
-reading (Refused x) r = record { verdict = Refused x; record = blankRecord }
+reading Accepted r = record { verdict = Accepted; object = r }
+reading (Refused x) r = record { verdict = Refused x; object = blankRecord }
 
 unfoldable pub readingOf : Image → Name → Reading
 readingOf img n = reading (judgeObject img n) (readOf img (place (get img slots) n))
