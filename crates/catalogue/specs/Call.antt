@@ -44,10 +44,10 @@ module _ {A : Type 0} where
 
   -- refused: image and log buffer stay. Accepted: 17 where the record does not fit from the place, else the next image, and the record in its place
   unfoldable pub perform : (ℕ → A) → (Refusal → A) → Verdict → List ℕ → Image → Image → List ℕ → ℕ → Outcome A
-  perform done no (Refused r) record-bytes next img log at = outcome (no r) img log
-  perform done no Accepted record-bytes next img log at =
+  perform done refused (Refused r) record-bytes next img log at = outcome (refused r) img log
+  perform done refused Accepted record-bytes next img log at =
       cond (leb (at + length record-bytes) (length log)) (outcome (done (length record-bytes)) next (splice log at record-bytes))
-      (outcome (no noRoom) img log)
+      (outcome (refused noRoom) img log)
 
 -- P and S are words 0 and 1
 abbrev pub judgeIn : Image → Act → Verdict
