@@ -1,0 +1,4 @@
+pub mod Listing
+pub mod Conditions
+pub mod Refusals
+pub mod Leaving
