@@ -2,3 +2,6 @@ pub mod Listing
 pub mod Conditions
 pub mod Refusals
 pub mod Leaving
+pub mod Calling
+pub mod Books
+pub mod Reached

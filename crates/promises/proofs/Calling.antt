@@ -1,0 +1,196 @@
+-- The two ways of a call: accepted, it performs its act and logs its record; refused, it leaves all as it was, and its number is not 0.
+-- Assumes nothing.
+use Prim.Native.Nat.{ℕ, _+_, _*_, _≤_}
+use mathlib.Core.Path.{_≡_, refl, sym, ap, _∙_}
+use mathlib.Core.Bool.{Bool, true, false}
+use mathlib.Core.List.{List, [], _∷_}
+use mathlib.Core.Logic.{_≢_}
+use native.Mathlib.Omega.{arith}
+use lib.Dec.{leb}
+use lib.ListN.{length, take}
+use Rattle.kinds.specs.Names.{mostOperations}
+use Rattle.kinds.specs.Answers.{refuse}
+use Rattle.kinds.specs.declared.Operation.{Operation}
+use Rattle.kinds.specs.declared.Operation.the-variants.{New, Set, Val, Root}
+use Rattle.kinds.specs.declared.Refusal.{Refusal}
+use Rattle.kinds.specs.declared.Verdict.{Verdict}
+use Rattle.kinds.specs.declared.Verdict.the-variants.{Accepted, Refused}
+use Rattle.model.specs.Image.{Image, partitions, slots, get, lengthOf, size, blank}
+use Rattle.model.specs.Acts.{Act, commit, opening, closing, trace, apply, perform}
+use Rattle.model.specs.Judge.{check, andThen, inLimits, judgeFormat, judgeOp, judgeOps, judge}
+use Rattle.model.specs.Sound.{isSound}
+use Rattle.model.proofs.Committing.{check-true, then-true}
+use Rattle.writer.specs.Record.{recordOf, headingOf}
+use Rattle.writer.specs.Write.{splice}
+use Rattle.catalogue.specs.declared.Answer.{Answer}
+use Rattle.catalogue.specs.declared.Answer.the-variants.{Done, Refused as NotDone}
+use Rattle.catalogue.specs.declared.Closing.{Closing}
+use Rattle.catalogue.specs.declared.Closing.the-variants.{Refused as NotClosed}
+use Rattle.catalogue.specs.Call.{Outcome, outcome, judgeIn, applyIn, judgeAct, judgeCommit, formatOf, callOf, commitOf, closed, closeOf}
+use Rattle.promises.specs.Calls.{Call, commit-call, open-call, close-call, trace-call, actOf, Made, answered, closed-up, formatting, calling}
+use Rattle.promises.proofs.Listing.{fully, fully-done, Performed, did, left, performed}
+
+-- a verdict that is not a refusal with the number k
+unfoldable pub Beside : ℕ → Verdict → Type 0
+Beside k Accepted = Unit {0}
+Beside k (Refused r) = r .number ≢ k
+
+pub beside-check : (k : ℕ) (b : Bool) (n e : ℕ) (u : Verdict) → n ≢ k → Beside k u → Beside k (check b n e u)
+unfolding check Beside
+beside-check k true n e u d h = h
+beside-check k false n e u d h = d
+
+pub beside-then : (k : ℕ) (u v : Verdict) → Beside k u → Beside k v → Beside k (andThen u v)
+unfolding andThen Beside
+beside-then k Accepted v h i = i
+beside-then k (Refused r) v h i = h
+
+pub beside-accepted : (k : ℕ) → Beside k Accepted
+unfolding Beside
+beside-accepted k = tt
+
+pub beside-is : (k : ℕ) (u : Verdict) → ((e : ℕ) → u ≢ refuse k e) → Beside k u
+unfolding Beside
+beside-is k Accepted h = tt
+beside-is k (Refused r) h = λ e. h (r .extra) (ap (λ (n : ℕ). refuse n (r .extra)) e)
+
+pub beside-not : (k : ℕ) (u : Verdict) (r : Refusal) → Beside k u → u ≡ Refused r → r .number ≢ k
+unfolding Beside
+beside-not k u r h e = rw e at h
+
+-- no judge refuses with 0
+operation-numbers : (P S : ℕ) (x : Image) (e : ℕ) (o : Operation) → Beside 0 (judgeOp P S x e o)
+unfolding judgeOp
+operation-numbers P S x e (New n v) = beside-check 0 _ 7 e _ (λ z. omega arith) (beside-check 0 _ 8 e _ (λ z. omega arith) (beside-accepted 0))
+operation-numbers P S x e (Set n k t) =
+    beside-check 0 _ 7 e _ (λ z. omega arith)
+    (beside-check 0 _ 9 e _ (λ z. omega arith) (beside-check 0 _ 9 e _ (λ z. omega arith) (beside-accepted 0)))
+operation-numbers P S x e (Val n v) = beside-check 0 _ 7 e _ (λ z. omega arith) (beside-check 0 _ 9 e _ (λ z. omega arith) (beside-accepted 0))
+operation-numbers P S x e (Root r t) = beside-check 0 _ 7 e _ (λ z. omega arith) (beside-check 0 _ 9 e _ (λ z. omega arith) (beside-accepted 0))
+
+operations-numbers : (P S : ℕ) (x : Image) (e : ℕ) (os : List Operation) → Beside 0 (judgeOps P S x e os)
+unfolding judgeOps
+operations-numbers P S x e [] = beside-accepted 0
+operations-numbers P S x e (o ∷ os) = beside-then 0 _ _ (operation-numbers P S x e o) (operations-numbers P S (perform S x o) (e + 1) os)
+
+judge-numbers : (P S : ℕ) (x : Image) (a : Act) → Beside 0 (judge P S x a)
+unfolding judge
+judge-numbers P S x (commit os) = beside-check 0 _ 6 0 _ (λ z. omega arith) (operations-numbers P S x 1 os)
+judge-numbers P S x opening = beside-check 0 _ 11 0 _ (λ z. omega arith) (beside-check 0 _ 12 0 _ (λ z. omega arith) (beside-accepted 0))
+judge-numbers P S x (trace p) =
+    beside-check 0 _ 10 0 _ (λ z. omega arith)
+    (beside-check 0 _ 7 0 _ (λ z. omega arith) (beside-check 0 _ 13 0 _ (λ z. omega arith) (beside-check 0 _ 15 0 _ (λ z. omega arith) (beside-accepted 0))))
+judge-numbers P S x closing =
+    beside-check 0 _ 10 0 _ (λ z. omega arith)
+    (beside-check 0 _ 12 0 _ (λ z. omega arith) (beside-check 0 _ 14 _ _ (λ z. omega arith) (beside-check 0 _ 16 0 _ (λ z. omega arith) (beside-accepted 0))))
+
+-- all that a call checks before 17
+abbrev pub judgeCall : Image → Call → Verdict
+judgeCall img (commit-call ops n) = judgeCommit img ops n
+judgeCall img open-call = judgeAct img opening
+judgeCall img (trace-call p) = judgeAct img (trace (p .0))
+judgeCall img close-call = judgeAct img closing
+
+-- where its act's judge does not refuse with k, nor 1 and 6 are k, the call does not
+pub call-beside : (k : ℕ) (img : Image) (c : Call) → 1 ≢ k → 6 ≢ k → Beside k (judgeIn img (actOf c)) → Beside k (judgeCall img c)
+unfolding judgeCommit judgeAct
+call-beside k img (commit-call ops n) one six h = beside-check k _ 1 0 _ one (beside-check k _ 6 0 _ six h)
+call-beside k img open-call one six h = beside-check k _ 1 0 _ one h
+call-beside k img (trace-call p) one six h = beside-check k _ 1 0 _ one h
+call-beside k img close-call one six h = beside-check k _ 1 0 _ one h
+
+call-numbers : (img : Image) (c : Call) → Beside 0 (judgeCall img c)
+call-numbers img c = call-beside 0 img c (λ z. omega arith) (λ z. omega arith) (judge-numbers (get img partitions) (get img slots) img (actOf c))
+
+-- accepted, its act is accepted where it stands
+pub call-judged : (img : Image) (c : Call) → judgeCall img c ≡ Accepted → (isSound img ≡ true) × (judgeIn img (actOf c) ≡ Accepted)
+unfolding judgeCommit judgeAct
+call-judged img (commit-call ops n) e = let t = check-true _ _ _ _ e in (t .0, check-true _ _ _ _ (t .1) .1)
+call-judged img open-call e = check-true _ _ _ _ e
+call-judged img (trace-call p) e = check-true _ _ _ _ e
+call-judged img close-call e = check-true _ _ _ _ e
+
+-- the two ways
+abbrev made : ℕ → ℕ → Image → List ℕ → Made
+made k n img log = record { number = k; length = n; image = img; log = log }
+
+pub data Ways (u : Verdict) (bytes : List ℕ) (next img : Image) (log : List ℕ) (at : ℕ) : Made → Type 0 where
+  done : u ≡ Accepted → at + length bytes ≤ length log → Ways u bytes next img log at (made 0 (length bytes) next (splice log at bytes))
+  not-done : (r : Refusal) → fully u bytes log at ≡ Refused r → Ways u bytes next img log at (made (r .number) 0 img log)
+
+ways-answer : {u : Verdict} {bytes : List ℕ} {next img : Image} {log : List ℕ} {at : ℕ} {o : Outcome Answer}
+    → Performed Done NotDone u bytes next img log at o → Ways u bytes next img log at (answered o)
+ways-answer (did a l) = done a l
+ways-answer (left r e) = not-done r e
+
+ways-closing : {u : Verdict} {bytes : List ℕ} {next img : Image} {log : List ℕ} {at : ℕ} {o : Outcome Closing}
+    → Performed (closed img) NotClosed u bytes next img log at o → Ways u bytes next img log at (closed-up o)
+ways-closing (did a l) = done a l
+ways-closing (left r e) = not-done r e
+
+pub format-ways : (img : Image) (P S : ℕ) (log : List ℕ) (at : ℕ)
+    → Ways (judgeFormat P S (lengthOf img)) (headingOf P S) (blank P S) img log at (formatting img P S log at)
+unfolding formatOf
+format-ways img P S log at = ways-answer (performed Done NotDone _ _ _ img log at)
+
+pub call-ways : (img : Image) (c : Call) (log : List ℕ) (at : ℕ)
+    → Ways (judgeCall img c) (recordOf (actOf c)) (applyIn img (actOf c)) img log at (calling img c log at)
+unfolding commitOf callOf closeOf
+call-ways img (commit-call ops n) log at = ways-answer (performed Done NotDone _ _ _ img log at)
+call-ways img open-call log at = ways-answer (performed Done NotDone _ _ _ img log at)
+call-ways img (trace-call p) log at = ways-answer (performed Done NotDone _ _ _ img log at)
+call-ways img close-call log at = ways-closing (performed (closed img) NotClosed _ _ _ img log at)
+
+-- 17 is not 0 either
+pub fully-beside : (k : ℕ) (u : Verdict) (bytes log : List ℕ) (at : ℕ) → 17 ≢ k → Beside k u → Beside k (fully u bytes log at)
+fully-beside k u bytes log at ne h = beside-then k u _ h (beside-check k _ 17 0 _ ne (beside-accepted k))
+
+-- an accepted call, whole
+pub record Accepting (u : Verdict) (bytes : List ℕ) (next : Image) (log : List ℕ) (at : ℕ) (m : Made) : Type 0 where
+  pub judged : u ≡ Accepted
+  pub room : at + length bytes ≤ length log
+  pub image-is : m .image ≡ next
+  pub length-is : m .length ≡ length bytes
+  pub log-is : m .log ≡ splice log at bytes
+
+pub accepting : {u : Verdict} {bytes : List ℕ} {next img : Image} {log : List ℕ} {at : ℕ} {m : Made}
+    → Beside 0 u → Ways u bytes next img log at m → m .number ≡ 0 → Accepting u bytes next log at m
+accepting b (done a l) z = record { judged = a; room = l; image-is = refl; length-is = refl; log-is = refl }
+accepting {u = u} {bytes = bytes} {log = log} {at = at} b (not-done r e) z =
+    absurd (beside-not 0 (fully u bytes log at) r (fully-beside 0 u bytes log at (λ z. omega arith) b) e z)
+
+-- a refused call, whole
+pub record Refusing (img : Image) (log : List ℕ) (m : Made) : Type 0 where
+  pub image-is : m .image ≡ img
+  pub log-is : m .log ≡ log
+
+pub refusing : {u : Verdict} {bytes : List ℕ} {next img : Image} {log : List ℕ} {at : ℕ} {m : Made}
+    → Ways u bytes next img log at m → m .number ≢ 0 → Refusing img log m
+refusing (done a l) ne = absurd (ne refl)
+refusing (not-done r e) ne = record { image-is = refl; log-is = refl }
+
+pub call-accepted : (img : Image) (c : Call) (log : List ℕ) (at : ℕ) → (calling img c log at) .number ≡ 0
+    → Accepting (judgeCall img c) (recordOf (actOf c)) (applyIn img (actOf c)) log at (calling img c log at)
+call-accepted img c log at z = accepting (call-numbers img c) (call-ways img c log at) z
+
+pub call-refused : (img : Image) (c : Call) (log : List ℕ) (at : ℕ) → (calling img c log at) .number ≢ 0 → Refusing img log (calling img c log at)
+call-refused img c log at ne = refusing (call-ways img c log at) ne
+
+pub format-accepted : (img : Image) (P S : ℕ) (log : List ℕ) (at : ℕ) → (formatting img P S log at) .number ≡ 0
+    → Accepting (judgeFormat P S (lengthOf img)) (headingOf P S) (blank P S) log at (formatting img P S log at)
+unfolding judgeFormat
+format-accepted img P S log at z = accepting (beside-check 0 _ 2 0 _ (λ z. omega arith) (beside-accepted 0)) (format-ways img P S log at) z
+
+pub format-refused : (img : Image) (P S : ℕ) (log : List ℕ) (at : ℕ) → (formatting img P S log at) .number ≢ 0 → Refusing img log (formatting img P S log at)
+format-refused img P S log at ne = refusing (format-ways img P S log at) ne
+
+-- and a call that is judged accepted and has room is accepted
+pub call-does : {u : Verdict} {bytes : List ℕ} {next img : Image} {log : List ℕ} {at : ℕ} {m : Made}
+    → Ways u bytes next img log at m → u ≡ Accepted → at + length bytes ≤ length log → m .number ≡ 0
+unfolding andThen check
+call-does (done a l) e r = refl
+call-does {bytes = bytes} {log = log} {at = at} (not-done r q) e l =
+    let z : _≡_ {A = ℕ} 0 1 = no-refusal r (sym (fully-done _ bytes log at e l) ∙ q) in absurd (omega arith)
+  where
+    no-refusal : (r : Refusal) → _≡_ {A = Verdict} Accepted (Refused r) → _≡_ {A = ℕ} 0 1
+    no-refusal r e = cc
