@@ -5,3 +5,4 @@ pub mod Leaving
 pub mod Calling
 pub mod Books
 pub mod Reached
+pub mod Phases
