@@ -6,3 +6,4 @@ pub mod Calling
 pub mod Books
 pub mod Reached
 pub mod Phases
+pub mod Table
