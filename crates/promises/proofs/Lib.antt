@@ -4,6 +4,7 @@ pub mod Refusals
 pub mod Leaving
 pub mod Calling
 pub mod Books
+pub mod Recoveries
 pub mod Reached
 pub mod Phases
 pub mod Table

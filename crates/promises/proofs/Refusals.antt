@@ -51,7 +51,7 @@ found-operation P S img e (Val n v) = found-check _ 7 e _ _ _ (test-name P S n) 
 found-operation P S img e (Root r t) =
     found-check _ 7 e _ _ _ (test-both _ _ _ _ (test-lt r roots) (test-target P S t)) (found-check _ 9 e _ _ _ (test-target-used S img t) found-none)
 
-found-operations : (P S : ℕ) (img : Image) (e : ℕ) (os : List Operation) → Found (operationsRows P S img e os) (judgeOps P S img e os)
+pub found-operations : (P S : ℕ) (img : Image) (e : ℕ) (os : List Operation) → Found (operationsRows P S img e os) (judgeOps P S img e os)
 unfolding judgeOps
 found-operations P S img e [] = found-none
 found-operations P S img e (o ∷ os) =
