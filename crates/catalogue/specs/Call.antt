@@ -44,10 +44,10 @@ module _ {A : Type 0} where
 
   -- refused: image and log buffer stay. Accepted: 17 where the record does not fit from the place, else the next image, and the record in its place
   unfoldable pub perform : (ℕ → A) → (Refusal → A) → Verdict → List ℕ → Image → Image → List ℕ → ℕ → Outcome A
-  perform done no (Refused r) record-bytes next img log at = outcome (no r) img log
-  perform done no Accepted record-bytes next img log at =
-      cond (leb (at + length record-bytes) (length log)) (outcome (done (length record-bytes)) next (splice log at record-bytes))
-      (outcome (no noRoom) img log)
+  perform done refused (Refused r) bytes next img log at = outcome (refused r) img log
+  perform done refused Accepted bytes next img log at =
+      cond (leb (at + length bytes) (length log)) (outcome (done (length bytes)) next (splice log at bytes))
+      (outcome (refused noRoom) img log)
 
 -- P and S are words 0 and 1
 abbrev pub judgeIn : Image → Act → Verdict
@@ -98,8 +98,8 @@ judgeObject img n = check (isSound img) 1 0 (judgeName (get img partitions) (get
 
 -- refused: payload 0 and four nothings
 abbrev pub reading : Verdict → Record → Reading
-reading Accepted r = record { verdict = Accepted; record = r }
-reading (Refused x) r = record { verdict = Refused x; record = blankRecord }
+reading Accepted r = record { verdict = Accepted; object = r }
+reading (Refused x) r = record { verdict = Refused x; object = blankRecord }
 
 unfoldable pub readingOf : Image → Name → Reading
 readingOf img n = reading (judgeObject img n) (readOf img (place (get img slots) n))
