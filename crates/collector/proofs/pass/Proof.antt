@@ -1,0 +1,25 @@
+use borrow.Author.Needs.{needs}
+use Rattle.collector.proofs.pass.Statement.{statement}
+use Rattle.collector.proofs.pass.Tie as tie
+use Rattle.collector.proofs.pass.Reads as reads
+use Rattle.collector.proofs.pass.Lts as lts
+use Rattle.collector.proofs.each.Reads as each-reads
+
+-- src/lib.rt:334:47
+mul-each : tie.Need-mul-each
+mul-each c = search needs
+
+-- src/lib.rt:334:5
+each-requires : tie.Need-each-requires
+each-requires c κs = search needs
+
+-- src/lib.rt:329:1
+same-length : tie.Need-same-length
+same-length c = search needs
+
+-- src/lib.rt:329:1
+returns : tie.Need-returns
+returns c = ?
+
+pub pass-spec : {M : Type 1} → statement M
+pass-spec = tie.close (tie.spec mul-each each-requires same-length returns)
