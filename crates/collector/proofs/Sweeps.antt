@@ -12,11 +12,11 @@ use lib.Dec.{eqb}
 use borrow.Author.Tests.{eqb-true, eqb-false, eq-eqb, ne-eqb, not-true}
 use Rattle.loops.specs.Loop.{both, each, again}
 use Rattle.loops.proofs.Tests.{both-true}
-use Rattle.loops.proofs.Loops.{each-keeps, again-keeps}
+use Rattle.loops.proofs.Loops.{each-keeps, again-keeps, tally-le}
 use Rattle.kinds.specs.Names.{mostPartitions, fields}
 use Rattle.model.specs.Image.{Image, Key, head, root, flag, state, payload, field, count, get, put, placeOf, partOf, release, Holder, a-root, a-field}
 use Rattle.model.specs.Spread.{follow, pass, spread}
-use Rattle.model.specs.Acts.{marked, mark, markWord, refers, target, own, foreign, clear, settle, inside, outside}
+use Rattle.model.specs.Acts.{marked, mark, markWord, refers, target, own, foreign, clear, settle, inside, outside, unmarked}
 use Rattle.model.proofs.Keys.{get-put-apart}
 use Rattle.image.specs.Within.{Within}
 use Rattle.image.proofs.Within.{Leads, part-in, within-put, within-release, within-mark, within-markWord}
@@ -115,8 +115,9 @@ module _ (P S : ℕ) where
   within-step Slots x i h l = within-settle x i h l
   within-step (Fields t within) x i h l = follow-keeps P S (t .0) within x i h (l .0) (l .1) (Within P S) h (within-mark P S x h)
 
-  pub within-each : (what : Sweep) (n : ℕ) (x : Image) → ((i : ℕ) → i < n → Reaches P S what i) → Within P S x → Within P S (each n (stepOf S what) x)
-  within-each what n x r h = each-keeps (Within P S) n (stepOf S what) (λ y i l g. within-step what y i g (r i l)) x h
+  pub within-swept : (what : Sweep) (n : ℕ) (x y : Image) → Within P S x → ((i : ℕ) → i < n → Reaches P S what i) → y ≡ each n (stepOf S what) x → Within P S y
+  within-swept what n x y h r e =
+      subst (Within P S) (sym e) (each-keeps (Within P S) n (stepOf S what) (λ z i l g. within-step what z i g (r i l)) x h)
 
 -- marks leave the head as it is
 head-mark : (P S : ℕ) (x : Image) (a j : ℕ) → Within P S x → a < 5 → j < P * S → get (mark S x j) (head a) ≡ get x (head a)
@@ -145,3 +146,10 @@ module _ (P S a t : ℕ) (x : Image) (l : a < 5) (m : t < P) where
 
   pub kept-inside : Within P S x → Kept P S a x (inside S t x)
   kept-inside h = rw (inside-is S t x) (again-keeps (Kept P S a x) S (passOver S t true) (kept-pass true) x record { bounds = h; word = refl })
+
+pub within-pass : (P S t : ℕ) (within : Bool) (x : Image) → Within P S x → t < P → Within P S (passOver S t within x)
+within-pass P S t within x h m = kept-pass P S 0 t x (omega arith) m within x record { bounds = h; word = refl } .bounds
+
+pub unmarked-le : (n : ℕ) (x : Image) → unmarked n x ≤ n
+unfolding unmarked
+unmarked-le n x = tally-le n (λ j. eqb (get x (state j)) 1)

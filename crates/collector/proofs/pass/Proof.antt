@@ -1,3 +1,6 @@
+use Rattle.collector.specs.Sweeps.{stepOf}
+use Rattle.collector.proofs.Sweeps.{pass-flat}
+use mathlib.Core.Path.{_≡_, sym, _∙_}
 use borrow.Author.Needs.{needs}
 use Rattle.collector.proofs.pass.Statement.{statement}
 use Rattle.collector.proofs.pass.Tie as tie
@@ -19,7 +22,8 @@ same-length c = search needs
 
 -- src/lib.rt:329:1
 returns : tie.Need-returns
-returns c = ?
+unfolding stepOf
+returns c = (c .before .before .each .ensures .0 ∙ sym (pass-flat _ _ _ _), c .before .before .each .ensures .1)
 
 pub pass-spec : {M : Type 1} → statement M
 pass-spec = tie.close (tie.spec mul-each each-requires same-length returns)
