@@ -8,21 +8,21 @@ use native.Mathlib.Omega.{arith}
 use lib.Dec.{ltb, leb}
 use lib.ListN.{length, take}
 use lib.Seq.{length-take-le}
-use borrow.Author.Tests.{leb-true, lt-leb, le-leb, lt-ltb}
-use Rattle.kinds.specs.Names.{mostOperations}
+use borrow.Author.Tests.{leb-true, lt-leb, le-leb, lt-ltb, eqb-true, ltb-true}
+use Rattle.kinds.specs.Names.{mostPartitions, mostOperations}
 use Rattle.kinds.specs.Answers.{refuse}
 use Rattle.kinds.specs.declared.Name.{Name}
 use Rattle.kinds.specs.declared.Operation.{Operation}
 use Rattle.kinds.specs.declared.Verdict.{Verdict}
 use Rattle.kinds.specs.declared.Verdict.the-variants.{Accepted, Refused}
-use Rattle.model.specs.Image.{Image, partitions, slots, get, place, front, stride}
-use Rattle.model.specs.Acts.{Act, commit}
+use Rattle.model.specs.Image.{Image, partitions, slots, count, get, place, front, stride}
+use Rattle.model.specs.Acts.{Act, commit, trace}
 use Rattle.model.specs.Judge.{check, judge, judgeOps, judgeName}
-use Rattle.model.specs.Sound.{isSound}
+use Rattle.model.specs.Sound.{isSound, Sound, OpenHead}
 use Rattle.model.proofs.Soundness.{sound-true}
 use Rattle.model.proofs.Committing.{check-true}
 use Rattle.image.specs.Within.{Within}
-use Rattle.image.proofs.Within.{sound-within}
+use Rattle.image.proofs.Within.{sound-within, product}
 use Rattle.questions.proofs.Naming.{accepted-in}
 use Rattle.catalogue.specs.Call.{judgeIn, judgeAct, judgeCommit, judgeObject}
 
@@ -47,6 +47,16 @@ module _ (x : Image) where
     pub act-judged : judgeIn x a ≡ Accepted
     unfolding judgeAct
     act-judged = check-true _ _ _ _ j .1
+
+  -- a trace that is accepted is of one of P partitions, and one more can be counted
+  pub trace-ready : (t : ℕ) → judgeAct x (trace t) ≡ Accepted → (t < get x partitions) × (get x count < 4294967295)
+  unfolding judge
+  trace-ready t j =
+      let a = check-true _ _ _ _ (act-judged (trace t) j) in
+      let s : Sound x = sound-true x (act-sound (trace t) j) in
+      let h : OpenHead (get x partitions) (get x slots) x = s .opened (eqb-true _ _ (a .0)) in
+      (ltb-true _ _ (check-true _ _ _ _ (a .1) .0),
+       omega (arith, h .allowed, h .counted, s .partitions-most, product mostPartitions (get x partitions) (get x slots) (s .partitions-most) (s .slots-most)))
 
   module _ (n : Name) (j : judgeObject x n ≡ Accepted) where
     pub object-sound : isSound x ≡ true
