@@ -1,4 +1,4 @@
--- Laws of searches: how a loop goes on to the first that meets a test, and what each search tells the judges.
+-- Laws of searches: how a loop goes on to the first that meets a test, and what each search tells a judge.
 -- Assumes nothing.
 use Prim.Native.Nat.{ℕ, zero, suc, _+_, _*_, _-_, _/_, _%_, _≤_, _<_}
 use mathlib.Core.Path.{_≡_, refl, sym, ap, _∙_, subst}
@@ -22,15 +22,6 @@ use Rattle.model.specs.Judge.{check, rooted, leadsOn, led, lowest}
 use Rattle.collector.specs.declared.Sought.{Sought}
 use Rattle.collector.specs.declared.Sought.the-variants.{Rooted, Unclean, RootAstray, FieldAstray}
 use Rattle.collector.specs.Searches.{astray, meets}
-
--- a check that fails, and one that passes with the rest still to say
-pub check-stop : (b : Bool) (n e : ℕ) (v : Verdict) → b ≡ false → refuse n e ≡ check b n e v
-unfolding check
-check-stop b n e v q = rw q
-
-pub check-pass : (b : Bool) (n e : ℕ) (r v : Verdict) → b ≡ true → r ≡ v → r ≡ check b n e v
-unfolding check
-check-pass b n e r v q p = rw q p
 
 module _ (f : ℕ → Bool) where
   -- the whole search is the rest from i
@@ -123,7 +114,7 @@ module _ (S : ℕ) (img : Image) where
         let i : ℕ = first (P * S * fields) 0 (meets S img FieldAstray) in
         let m = both-true (marked img (i / fields)) (not (leadsOn S img (field (i / fields) (i % fields)))) (first-some (meets S img FieldAstray) (P * S * fields) 0 (omega arith)) in
         let k : every fields (λ k. leadsOn S img (field (i / fields) k)) ≡ false =
-          sym (every-fails (λ k. leadsOn S img (field (i / fields) k)) fields (i % fields) (omega arith) (not-true (leadsOn S img (field (i / fields) (i % fields))) (m .1))) in
+        sym (every-fails (λ k. leadsOn S img (field (i / fields) k)) fields (i % fields) (omega arith) (not-true (leadsOn S img (field (i / fields) (i % fields))) (m .1))) in
         let e : every (P * S) leads ≡ false = sym (every-fails leads (P * S) (i / fields) (omega arith) (rw (m .0) k)) in
         rw e (both-false (every anchors (λ r. leadsOn S img (root r))))
 
@@ -138,6 +129,7 @@ module _ (S : ℕ) (img : Image) where
             let q : (j * fields + k) / fields ≡ j = digits-div j e in
             let r : (j * fields + k) % fields ≡ k = digits-mod j e in
             rw (q, r) at (first-none (meets S img FieldAstray) (P * S * fields) 0 (omega arith) (j * fields + k) (omega arith) (omega arith))
+
         go : (j : ℕ) → j < P * S → (b : Bool) → marked img j ≡ b → cond b (every fields (λ k. leadsOn S img (field j k))) true ≡ true
         go j d true e = every-so fields (λ k. leadsOn S img (field j k)) (λ k o. not-false (leadsOn S img (field j k)) (rw e at (at j k d o)))
         go j d false e = refl
