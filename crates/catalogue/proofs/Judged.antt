@@ -54,9 +54,10 @@ module _ (x : Image) where
   trace-ready t j =
       let a = check-true _ _ _ _ (act-judged (trace t) j) in
       let s : Sound x = sound-true x (act-sound (trace t) j) in
-      let h : OpenHead (get x partitions) (get x slots) x = s .opened (eqb-true _ _ (a .0)) in
-      (ltb-true _ _ (check-true _ _ _ _ (a .1) .0),
-       omega (arith, h .allowed, h .counted, s .partitions-most, product mostPartitions (get x partitions) (get x slots) (s .partitions-most) (s .slots-most)))
+      let h : OpenHead (get x partitions) (get x slots) x = s .opened (eqb-true _ _ (a .0)) in (
+        ltb-true _ _ (check-true _ _ _ _ (a .1) .0),
+        omega (arith, h .allowed, h .counted, s .partitions-most, product mostPartitions (get x partitions) (get x slots) (s .partitions-most) (s .slots-most)),
+      )
 
   module _ (n : Name) (j : judgeObject x n ≡ Accepted) where
     pub object-sound : isSound x ≡ true

@@ -56,7 +56,6 @@ pub record Leaves {A : Type 0} (number : A → ℕ) (img : Image) (log : List �
 -- of any answer type whose numbers are the refusals', and 0 where it is done
 module _ {A : Type 0} (done-as : ℕ → A) (refused-as : Refusal → A) (number : A → ℕ) (number-done : (n : ℕ) → number (done-as n) ≡ 0)
     (number-refused : (r : Refusal) → number (refused-as r) ≡ r .number) (bytes : List ℕ) (next img : Image) (log : List ℕ) (at : ℕ) where
-
   module _ (lo : ℕ) (v : Verdict) where
     accepted-next : (o : Outcome A) → Ending done-as refused-as bytes next img log at lo v o → 0 < lo → number (o .answer) ≡ 0 → (v ≡ Accepted) × (o .image ≡ next)
     accepted-next _ (ended j r) z e = (j, refl)
