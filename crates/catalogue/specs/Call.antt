@@ -44,9 +44,9 @@ module _ {A : Type 0} where
 
   -- refused: image and log buffer stay. Accepted: 17 where the record does not fit from the place, else the next image, and the record in its place
   unfoldable pub perform : (ℕ → A) → (Refusal → A) → Verdict → List ℕ → Image → Image → List ℕ → ℕ → Outcome A
-  perform done refused (Refused r) record-bytes next img log at = outcome (refused r) img log
-  perform done refused Accepted record-bytes next img log at =
-      cond (leb (at + length record-bytes) (length log)) (outcome (done (length record-bytes)) next (splice log at record-bytes))
+  perform done refused (Refused r) bytes next img log at = outcome (refused r) img log
+  perform done refused Accepted bytes next img log at =
+      cond (leb (at + length bytes) (length log)) (outcome (done (length bytes)) next (splice log at bytes))
       (outcome (refused noRoom) img log)
 
 -- P and S are words 0 and 1
