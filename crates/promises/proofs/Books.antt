@@ -2,7 +2,7 @@
 -- at any byte after the heading is recovered to the image after the last complete record, equal in every word, with the end of that record as kept length.
 -- Carrying on from there stays within the statement, since a recovery is itself a case of a book.
 -- Assumes nothing.
-use Prim.Native.Nat.{ℕ, _+_, _*_, _≤_}
+use Prim.Native.Nat.{ℕ, _+_, _≤_}
 use native.Mathlib.Nat.{zero-add}
 use native.Mathlib.Omega.{arith}
 use mathlib.Core.Path.{_≡_, refl, sym, ap, _∙_, subst}
@@ -11,7 +11,6 @@ use mathlib.Core.List.{List, [], _∷_, _++_, append-assoc}
 use lib.Dec.{eqb, leb}
 use lib.ListN.{length, take, drop, length-append}
 use lib.Seq.{length-take-le, take-take, take-at}
-use Rattle.loops.specs.Loop.{both}
 use Rattle.loops.proofs.Tests.{both-true}
 use Rattle.kinds.specs.declared.Verdict.the-variants.{Accepted}
 use Rattle.model.specs.Image.{Image, partitions, slots, get, lengthOf, size, blank}
@@ -23,13 +22,13 @@ use Rattle.model.proofs.Keys.{blank-partitions, blank-slots}
 use Rattle.model.proofs.SoundnessActs.{blank-sound, run-kept}
 use Rattle.writer.specs.Record.{recordOf, headingOf}
 use Rattle.writer.specs.Write.{splice}
-use Rattle.journal.specs.Log.{logOf, replay, whole, Words}
-use Rattle.journal.specs.Recover.{Recovered, recovery, recoverOf}
+use Rattle.journal.specs.Log.{logOf, replay, whole}
+use Rattle.journal.specs.Recover.{recovery, recoverOf}
 use Rattle.journal.proofs.Demand.{replayed, demand-2}
-use Rattle.journal.proofs.Carrying.{Carried, carry-cut, cut-kept, Part, whole-part}
+use Rattle.journal.proofs.Carrying.{carry-cut, cut-kept, whole-part}
 use Rattle.promises.specs.Calls.{Call, actOf, Worded, formatting, calling}
 use Rattle.promises.specs.Book.{Page, page, lastWithin, earlierThan, Book, formatted, called, refused, moved, recovered, pageOf, pagesBefore, Keeps}
-use Rattle.promises.proofs.Calling.{Accepting, Refusing, judgeCall, call-judged, call-accepted, call-refused, format-accepted}
+use Rattle.promises.proofs.Calling.{judgeCall, call-judged, call-accepted, call-refused, format-accepted}
 
 -- words 0 and 1 of a reached heap
 pub record Headed (P S : ℕ) (y : Image) : Type 0 where

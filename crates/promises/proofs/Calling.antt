@@ -1,32 +1,29 @@
 -- The two ways of a call: accepted, it performs its act and logs its record; refused, it leaves all as it was, and its number is not 0.
 -- Assumes nothing.
-use Prim.Native.Nat.{ℕ, _+_, _*_, _≤_}
+use Prim.Native.Nat.{ℕ, _+_, _≤_, _<_}
 use mathlib.Core.Path.{_≡_, refl, sym, ap, _∙_}
 use mathlib.Core.Bool.{Bool, true, false}
-use mathlib.Core.List.{List, [], _∷_}
+use mathlib.Core.List.{List}
 use mathlib.Core.Logic.{_≢_}
 use native.Mathlib.Omega.{arith}
-use lib.Dec.{leb}
-use lib.ListN.{length, take}
-use Rattle.kinds.specs.Names.{mostOperations}
+use lib.ListN.{length}
 use Rattle.kinds.specs.Answers.{refuse}
-use Rattle.kinds.specs.declared.Operation.{Operation}
-use Rattle.kinds.specs.declared.Operation.the-variants.{New, Set, Val, Root}
 use Rattle.kinds.specs.declared.Refusal.{Refusal}
 use Rattle.kinds.specs.declared.Verdict.{Verdict}
 use Rattle.kinds.specs.declared.Verdict.the-variants.{Accepted, Refused}
-use Rattle.model.specs.Image.{Image, partitions, slots, get, lengthOf, size, blank}
-use Rattle.model.specs.Acts.{Act, commit, opening, closing, trace, apply, perform}
-use Rattle.model.specs.Judge.{check, andThen, inLimits, judgeFormat, judgeOp, judgeOps, judge}
+use Rattle.model.specs.Image.{Image, partitions, slots, get, lengthOf, blank}
+use Rattle.model.specs.Acts.{opening, closing, trace}
+use Rattle.model.specs.Judge.{check, andThen, judgeFormat}
 use Rattle.model.specs.Sound.{isSound}
-use Rattle.model.proofs.Committing.{check-true, then-true}
 use Rattle.writer.specs.Record.{recordOf, headingOf}
 use Rattle.writer.specs.Write.{splice}
 use Rattle.catalogue.specs.declared.Answer.{Answer}
 use Rattle.catalogue.specs.declared.Answer.the-variants.{Done, Refused as NotDone}
 use Rattle.catalogue.specs.declared.Closing.{Closing}
 use Rattle.catalogue.specs.declared.Closing.the-variants.{Refused as NotClosed}
-use Rattle.catalogue.specs.Call.{Outcome, outcome, judgeIn, applyIn, judgeAct, judgeCommit, formatOf, callOf, commitOf, closed, closeOf}
+use Rattle.catalogue.specs.Call.{Outcome, judgeIn, applyIn, judgeAct, judgeCommit, formatOf, callOf, commitOf, closed, closeOf}
+use Rattle.catalogue.proofs.Judged.{act-sound, act-judged, commit-sound, commit-judged}
+use Rattle.catalogue.proofs.Numbers.{Among, accepted, numbered, act-among, format-among}
 use Rattle.promises.specs.Calls.{Call, commit-call, open-call, close-call, trace-call, actOf, Made, answered, closed-up, formatting, calling}
 use Rattle.promises.proofs.Listing.{fully, fully-done, Performed, did, left, performed}
 
@@ -58,31 +55,11 @@ pub beside-not : (k : ℕ) (u : Verdict) (r : Refusal) → Beside k u → u ≡ 
 unfolding Beside
 beside-not k u r h e = rw e at h
 
--- no judge refuses with 0
-operation-numbers : (P S : ℕ) (x : Image) (e : ℕ) (o : Operation) → Beside 0 (judgeOp P S x e o)
-unfolding judgeOp
-operation-numbers P S x e (New n v) = beside-check 0 _ 7 e _ (λ z. omega arith) (beside-check 0 _ 8 e _ (λ z. omega arith) (beside-accepted 0))
-operation-numbers P S x e (Set n k t) =
-    beside-check 0 _ 7 e _ (λ z. omega arith)
-    (beside-check 0 _ 9 e _ (λ z. omega arith) (beside-check 0 _ 9 e _ (λ z. omega arith) (beside-accepted 0)))
-operation-numbers P S x e (Val n v) = beside-check 0 _ 7 e _ (λ z. omega arith) (beside-check 0 _ 9 e _ (λ z. omega arith) (beside-accepted 0))
-operation-numbers P S x e (Root r t) = beside-check 0 _ 7 e _ (λ z. omega arith) (beside-check 0 _ 9 e _ (λ z. omega arith) (beside-accepted 0))
-
-operations-numbers : (P S : ℕ) (x : Image) (e : ℕ) (os : List Operation) → Beside 0 (judgeOps P S x e os)
-unfolding judgeOps
-operations-numbers P S x e [] = beside-accepted 0
-operations-numbers P S x e (o ∷ os) = beside-then 0 _ _ (operation-numbers P S x e o) (operations-numbers P S (perform S x o) (e + 1) os)
-
-judge-numbers : (P S : ℕ) (x : Image) (a : Act) → Beside 0 (judge P S x a)
-unfolding judge
-judge-numbers P S x (commit os) = beside-check 0 _ 6 0 _ (λ z. omega arith) (operations-numbers P S x 1 os)
-judge-numbers P S x opening = beside-check 0 _ 11 0 _ (λ z. omega arith) (beside-check 0 _ 12 0 _ (λ z. omega arith) (beside-accepted 0))
-judge-numbers P S x (trace p) =
-    beside-check 0 _ 10 0 _ (λ z. omega arith)
-    (beside-check 0 _ 7 0 _ (λ z. omega arith) (beside-check 0 _ 13 0 _ (λ z. omega arith) (beside-check 0 _ 15 0 _ (λ z. omega arith) (beside-accepted 0))))
-judge-numbers P S x closing =
-    beside-check 0 _ 10 0 _ (λ z. omega arith)
-    (beside-check 0 _ 12 0 _ (λ z. omega arith) (beside-check 0 _ 14 _ _ (λ z. omega arith) (beside-check 0 _ 16 0 _ (λ z. omega arith) (beside-accepted 0))))
+-- as the numbers from lo to hi, where k is below them
+pub beside-among : (k lo hi : ℕ) (u : Verdict) → k < lo → Among lo hi u → Beside k u
+unfolding Beside
+beside-among k lo hi Accepted l accepted = tt
+beside-among k lo hi (Refused _) l (numbered r a b) = λ e. omega arith
 
 -- all that a call checks before 17
 abbrev pub judgeCall : Image → Call → Verdict
@@ -100,15 +77,14 @@ call-beside k img (trace-call p) one six h = beside-check k _ 1 0 _ one h
 call-beside k img close-call one six h = beside-check k _ 1 0 _ one h
 
 call-numbers : (img : Image) (c : Call) → Beside 0 (judgeCall img c)
-call-numbers img c = call-beside 0 img c (λ z. omega arith) (λ z. omega arith) (judge-numbers (get img partitions) (get img slots) img (actOf c))
+call-numbers img c = call-beside 0 img c (λ z. omega arith) (λ z. omega arith) (beside-among 0 6 16 _ (omega arith) (act-among (get img partitions) (get img slots) img (actOf c)))
 
 -- accepted, its act is accepted where it stands
 pub call-judged : (img : Image) (c : Call) → judgeCall img c ≡ Accepted → (isSound img ≡ true) × (judgeIn img (actOf c) ≡ Accepted)
-unfolding judgeCommit judgeAct
-call-judged img (commit-call ops n) e = let t = check-true _ _ _ _ e in (t .0, check-true _ _ _ _ (t .1) .1)
-call-judged img open-call e = check-true _ _ _ _ e
-call-judged img (trace-call p) e = check-true _ _ _ _ e
-call-judged img close-call e = check-true _ _ _ _ e
+call-judged img (commit-call ops n) e = (commit-sound img ops n e, commit-judged img ops n e)
+call-judged img open-call e = (act-sound img opening e, act-judged img opening e)
+call-judged img (trace-call p) e = (act-sound img (trace (p .0)) e, act-judged img (trace (p .0)) e)
+call-judged img close-call e = (act-sound img closing e, act-judged img closing e)
 
 -- the two ways
 abbrev made : ℕ → ℕ → Image → List ℕ → Made
@@ -178,8 +154,7 @@ call-refused img c log at ne = refusing (call-ways img c log at) ne
 
 pub format-accepted : (img : Image) (P S : ℕ) (log : List ℕ) (at : ℕ) → (formatting img P S log at) .number ≡ 0
     → Accepting (judgeFormat P S (lengthOf img)) (headingOf P S) (blank P S) log at (formatting img P S log at)
-unfolding judgeFormat
-format-accepted img P S log at z = accepting (beside-check 0 _ 2 0 _ (λ z. omega arith) (beside-accepted 0)) (format-ways img P S log at) z
+format-accepted img P S log at z = accepting (beside-among 0 2 2 _ (omega arith) (format-among P S (lengthOf img))) (format-ways img P S log at) z
 
 pub format-refused : (img : Image) (P S : ℕ) (log : List ℕ) (at : ℕ) → (formatting img P S log at) .number ≢ 0 → Refusing img log (formatting img P S log at)
 format-refused img P S log at ne = refusing (format-ways img P S log at) ne

@@ -1,26 +1,24 @@
 -- Each test of a judge fails exactly where the table's condition holds.
 -- Assumes nothing.
 use Prim.Native.Nat.{ℕ, zero, suc, _+_, _*_, _≤_, _<_}
-use mathlib.Core.Path.{_≡_, refl, sym, _∙_}
+use mathlib.Core.Path.{_≡_, refl, sym}
 use mathlib.Core.Bool.{Bool, true, false, not, cond, true≢false}
-use mathlib.Core.List.{List}
 use mathlib.Core.Logic.{_≢_, _⊎_, inl, inr, ⊎-elim}
 use native.Mathlib.Nat.{eq-or-lt-of-le}
 use native.Mathlib.Omega.{arith}
 use lib.Dec.{eqb, ltb, leb}
-use lib.ListN.{length}
-use borrow.Author.Tests.{eqb-true, eqb-false, eq-eqb, ne-eqb, ltb-true, ltb-false, leb-true, leb-false, not-true, not-false}
+use borrow.Author.Tests.{eqb-true, eqb-false, eq-eqb, ltb-true, ltb-false, leb-true, leb-false, not-true, not-false}
 use Rattle.loops.specs.Loop.{both, tally, every, first}
-use Rattle.loops.proofs.Tests.{clash, is-false, both-true, lt-or-ge}
-use Rattle.loops.proofs.Loops.{tally-zero, tally-some, every-true, every-so, every-false, first-found}
-use Rattle.kinds.specs.Names.{mostPartitions, mostSlots, roots, fields}
+use Rattle.loops.proofs.Tests.{clash, lt-or-ge}
+use Rattle.loops.proofs.Loops.{tally-zero, every-true, every-so, every-false}
+use Rattle.kinds.specs.Names.{mostPartitions, mostSlots, roots}
 use Rattle.kinds.specs.declared.Name.{Name}
 use Rattle.kinds.specs.declared.Target.{Target}
 use Rattle.kinds.specs.declared.Target.the-variants.{Nothing, Object}
-use Rattle.model.specs.Image.{Image, Key, root, flag, state, field, partitions, slots, phase, anchors, get, size, place, placeOf, Holder, a-root as holds-root, a-field as holds-field}
+use Rattle.model.specs.Image.{Image, Key, root, flag, state, field, partitions, slots, phase, anchors, get, size, place, placeOf, a-root as holds-root, a-field as holds-field}
 use Rattle.model.specs.Acts.{used, marked, isOpen, notClean}
 use Rattle.model.specs.Judge.{inLimits, inHeap, targetInHeap, targetUsed, rooted, leadsOn, led, lowest}
-use Rattle.model.specs.Sound.{isSound, Sound}
+use Rattle.model.specs.Sound.{isSound}
 use Rattle.model.proofs.Closing.{led-leads}
 use Rattle.model.proofs.Soundness.{sound-true, sound-back}
 use Rattle.promises.specs.Rows.{Unsound, WrongSize, no-partition, many-partitions, no-slot, many-slots, wrong-length, TooLarge, TargetTooLarge, InUse, NotInUse, TargetNotInUse, NotOpen, AlreadyOpen, NoRoot, Clean, Lowest, Live, a-root, a-field, Astray}

@@ -5,7 +5,7 @@ use Prim.Native.Nat.{ℕ, _+_}
 use mathlib.Core.Path.{_≡_, refl, sym, ap, _∙_}
 use mathlib.Core.Bool.{Bool, true, false, cond}
 use mathlib.Core.List.{List, []}
-use mathlib.Core.Logic.{_≢_, inl, inr, ⊎-elim}
+use mathlib.Core.Logic.{_≢_, ⊎-elim}
 use native.Mathlib.Omega.{arith}
 use lib.ListN.{replicate}
 use Rattle.kinds.specs.Answers.{blankRecord}
@@ -13,57 +13,25 @@ use Rattle.kinds.specs.declared.Name.{Name}
 use Rattle.kinds.specs.declared.Partition.{Partition}
 use Rattle.kinds.specs.declared.Operation.{Operation}
 use Rattle.kinds.specs.declared.Refusal.{Refusal}
-use Rattle.kinds.specs.declared.Verdict.{Verdict}
-use Rattle.kinds.specs.declared.Verdict.the-variants.{Accepted, Refused}
+use Rattle.kinds.specs.declared.Verdict.the-variants.{Accepted}
 use Rattle.model.specs.Image.{Image}
-use Rattle.model.specs.Acts.{opening, closing, trace}
 use Rattle.model.specs.Judge.{check}
 use Rattle.model.specs.Sound.{isSound}
 use Rattle.model.proofs.SoundnessActs.{zeros-unsound}
-use Rattle.journal.specs.Recover.{Stand, early, going, stopped, Reader, reader, feedAll, refusal, recovery, tailOk, close, answer, recoverOf}
-use Rattle.catalogue.specs.declared.Answer.{Answer}
-use Rattle.catalogue.specs.declared.Answer.the-variants.{Done, Refused as NotDone}
-use Rattle.catalogue.specs.declared.Closing.the-variants.{Refused as NotClosed}
+use Rattle.journal.specs.Recover.{Stand, early, going, stopped, reader, feedAll, refusal, recovery, tailOk, close, answer, recoverOf}
 use Rattle.catalogue.specs.Answers.{Said, refusedWith, said, totals, saidClosing, saidReading, saidAsked}
-use Rattle.catalogue.specs.Call.{Outcome, perform, judgeAct, judgeCommit, judgeObject, formatOf, callOf, commitOf, openOf, traceOf, closed, closeOf, readingOf, askedOf}
+use Rattle.catalogue.specs.Call.{perform, judgeAct, judgeCommit, judgeObject, callOf, commitOf, openOf, traceOf, closeOf, readingOf, askedOf}
 use Rattle.promises.specs.Rows.{NoRoot}
-use Rattle.promises.proofs.Listing.{Performed, did, left, performed}
+use Rattle.promises.specs.Calls.{Call, open-call, close-call, formatting, calling}
+use Rattle.promises.proofs.Calling.{Refusing, call-refused, format-refused}
 use Rattle.promises.proofs.Refusals.{open-first, close-first}
 
--- image and log are as they were
-abbrev pub Same : {A : Type 0} → Outcome A → Image → List ℕ → Type 0
-Same o img log = (o .image ≡ img) × (o .log ≡ log)
+-- A REFUSED CALL LEAVES IMAGE AND LOG, whatever the call: its number is not 0
+pub refused-leaves : (img : Image) (c : Call) (log : List ℕ) (at : ℕ) → (calling img c log at) .number ≢ 0 → Refusing img log (calling img c log at)
+refused-leaves = call-refused
 
--- A REFUSED CALL LEAVES IMAGE AND LOG, whatever the call: its number is not 0, the number of done
-pub refused-leaves : {A B : Type 0} (say : B → Said A) (done : ℕ → B) (refused : Refusal → B) (u : Verdict) (bytes : List ℕ) (next img : Image) (log : List ℕ) (at : ℕ)
-    → ((n : ℕ) → (say (done n)) .number ≡ 0)
-    → (say ((perform done refused u bytes next img log at) .answer)) .number ≢ 0 → Same (perform done refused u bytes next img log at) img log
-refused-leaves {B = B} say done refused u bytes next img log at zero-done = go (performed done refused u bytes next img log at)
-  where
-    go : {o : Outcome B} → Performed done refused u bytes next img log at o → (say (o .answer)) .number ≢ 0 → Same o img log
-    go (did a l) ne = absurd (ne (zero-done _))
-    go (left r e) ne = (refl, refl)
-
-module _ (img : Image) (log : List ℕ) (at : ℕ) where
-  pub format-leaves : (P S : ℕ) → (said ((formatOf img P S log at) .answer)) .number ≢ 0 → Same (formatOf img P S log at) img log
-  unfolding formatOf
-  format-leaves P S ne = refused-leaves said Done NotDone _ _ _ img log at (λ n. refl) ne
-
-  pub commit-leaves : (ops : List Operation) (n : ℕ) → (said ((commitOf img ops n log at) .answer)) .number ≢ 0 → Same (commitOf img ops n log at) img log
-  unfolding commitOf
-  commit-leaves ops n ne = refused-leaves said Done NotDone _ _ _ img log at (λ n. refl) ne
-
-  pub open-leaves : (said ((openOf img log at) .answer)) .number ≢ 0 → Same (openOf img log at) img log
-  unfolding callOf
-  open-leaves ne = refused-leaves said Done NotDone _ _ _ img log at (λ n. refl) ne
-
-  pub trace-leaves : (p : Partition) → (said ((traceOf img p log at) .answer)) .number ≢ 0 → Same (traceOf img p log at) img log
-  unfolding callOf
-  trace-leaves p ne = refused-leaves said Done NotDone _ _ _ img log at (λ n. refl) ne
-
-  pub close-leaves : (saidClosing ((closeOf img log at) .answer)) .number ≢ 0 → Same (closeOf img log at) img log
-  unfolding closeOf
-  close-leaves ne = refused-leaves saidClosing (closed img) NotClosed _ _ _ img log at (λ n. refl) ne
+pub refused-format-leaves : (img : Image) (P S : ℕ) (log : List ℕ) (at : ℕ) → (formatting img P S log at) .number ≢ 0 → Refusing img log (formatting img P S log at)
+refused-format-leaves = format-refused
 
 -- A REFUSED RECOVERY LEAVES ZEROS and keeps nothing
 pub refused-recovery : (log : List ℕ) (len : ℕ) → (recoverOf log len) .verdict ≢ Accepted → ((recoverOf log len) .image ≡ replicate len 0) × ((recoverOf log len) .kept ≡ 0)
@@ -113,19 +81,19 @@ numbered : {A : Type 0} (s : Said A) (z : A) (n e : ℕ) → n ≢ 0 → s ≡ r
 numbered s z n e ne q m = ne (sym (ap (λ (t : Said _). t .number) q) ∙ m)
 
 module _ (img : Image) (log : List ℕ) (at : ℕ) (none : NoRoot img) where
-  pub rootless-open : ((said ((openOf img log at) .answer)) .number ≢ 0) × Same (openOf img log at) img log
-  rootless-open = let ne = refused in (ne, open-leaves img log at ne)
+  pub rootless-open : ((calling img open-call log at) .number ≢ 0) × Refusing img log (calling img open-call log at)
+  rootless-open = let ne = refused in (ne, call-refused img open-call log at ne)
     where
-      refused : (said ((openOf img log at) .answer)) .number ≢ 0
+      refused : (calling img open-call log at) .number ≢ 0
       refused =
           ⊎-elim (λ x. numbered _ 0 1 0 (λ z. omega arith) (x .1))
           (λ x. ⊎-elim (λ y. numbered _ 0 11 0 (λ z. omega arith) (y .1))
           (λ y. ⊎-elim (λ w. numbered _ 0 12 0 (λ z. omega arith) (w .1)) (λ w. absurd (w .0 none)) (y .1)) (x .1)) (open-first img log at)
 
-  pub rootless-close : ((saidClosing ((closeOf img log at) .answer)) .number ≢ 0) × Same (closeOf img log at) img log
-  rootless-close = let ne = refused in (ne, close-leaves img log at ne)
+  pub rootless-close : ((calling img close-call log at) .number ≢ 0) × Refusing img log (calling img close-call log at)
+  rootless-close = let ne = refused in (ne, call-refused img close-call log at ne)
     where
-      refused : (saidClosing ((closeOf img log at) .answer)) .number ≢ 0
+      refused : (calling img close-call log at) .number ≢ 0
       refused =
           ⊎-elim (λ x. numbered _ _ 1 0 (λ z. omega arith) (x .1))
           (λ x. ⊎-elim (λ y. numbered _ _ 10 0 (λ z. omega arith) (y .1))

@@ -3,9 +3,9 @@
 -- a root leads to and frees every object that no chain leads to.
 -- Assumes nothing.
 use Prim.Native.Nat.{ℕ, _+_, _*_, _≤_, _<_}
-use mathlib.Core.Path.{_≡_, refl, sym, ap, _∙_, subst}
+use mathlib.Core.Path.{_≡_, refl, ap, _∙_, subst}
 use mathlib.Core.Bool.{Bool, true, false}
-use mathlib.Core.List.{List, [], _∷_, _++_}
+use mathlib.Core.List.{List, _∷_, _++_}
 use mathlib.Core.Logic.{_≢_, ⊎-elim}
 use native.Mathlib.Omega.{arith}
 use lib.ListN.{length}
@@ -13,9 +13,9 @@ use Rattle.loops.proofs.Tests.{eq-or-ne}
 use Rattle.kinds.specs.Answers.{refuse}
 use Rattle.kinds.specs.declared.Partition.{Partition}
 use Rattle.kinds.specs.declared.Verdict.{Verdict}
-use Rattle.kinds.specs.declared.Verdict.the-variants.{Accepted, Refused}
+use Rattle.kinds.specs.declared.Verdict.the-variants.{Accepted}
 use Rattle.model.specs.Image.{Image, flag, state, partitions, slots, count, get, blank}
-use Rattle.model.specs.Acts.{Act, commit, opening, closing, trace, notClean, unmarked, apply}
+use Rattle.model.specs.Acts.{Act, opening, closing, trace, notClean, unmarked, apply}
 use Rattle.model.specs.Chains.{Leads, ChainTo}
 use Rattle.model.specs.History.{Run, still, acted, traces, Unclosed, unrooted}
 use Rattle.model.specs.Judge.{check, inLimits, rooted, lowest, judge}
@@ -32,11 +32,11 @@ use Rattle.catalogue.specs.declared.Closing.the-variants.{Refused as NotClosed}
 use Rattle.catalogue.specs.Answers.{accepted, totals, said, saidClosing}
 use Rattle.catalogue.specs.Call.{judgeAct, callOf, traceOf, closed, closeOf}
 use Rattle.promises.specs.Rows.{NoRoot, Clean}
-use Rattle.promises.specs.Calls.{Call, commit-call, open-call, close-call, trace-call, actOf, formatting, calling, Made}
-use Rattle.promises.specs.World.{World, logged, Replayed}
+use Rattle.promises.specs.Calls.{Call, commit-call, open-call, close-call, trace-call, actOf, calling, Made}
+use Rattle.promises.specs.World.{World, logged}
 use Rattle.promises.specs.Phase.{During, opened, called, refused, unformatted}
 use Rattle.promises.proofs.Books.{Headed, reached-headed, call-leaves}
-use Rattle.promises.proofs.Calling.{Beside, beside-is, beside-not, fully-beside, call-beside, judgeCall, Ways, done, not-done, call-ways, call-accepted, call-refused, format-refused}
+use Rattle.promises.proofs.Calling.{Beside, beside-is, beside-not, fully-beside, call-beside, Ways, done, not-done, call-ways, call-refused, format-refused}
 use Rattle.promises.proofs.Conditions.{found-lowest, test-rooted}
 use Rattle.promises.proofs.Listing.{fully, fully-done, telled, said-perform}
 use Rattle.promises.proofs.Reached.{reached}

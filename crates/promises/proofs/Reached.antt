@@ -2,15 +2,14 @@
 -- formatted, or zeros, or the replay of the kept history since the last formatting or recovery, each act of it accepted where it stands.
 -- Assumes nothing.
 use Prim.Native.Nat.{ℕ}
-use mathlib.Core.Path.{_≡_, refl, sym, ap, _∙_, subst}
-use mathlib.Core.Bool.{Bool, true, false}
-use mathlib.Core.List.{List, [], _∷_, _++_}
+use mathlib.Core.Path.{_≡_, refl, sym, _∙_, subst}
+use mathlib.Core.Bool.{true}
+use mathlib.Core.List.{List, [], _∷_}
 use mathlib.Core.Logic.{_⊎_, inl, inr, ⊎-elim}
 use native.Mathlib.Omega.{arith}
-use lib.ListN.{take, replicate}
 use Rattle.loops.proofs.Tests.{clash}
 use Rattle.kinds.specs.declared.Verdict.the-variants.{Accepted}
-use Rattle.model.specs.Image.{Image, partitions, slots, get, lengthOf, blank}
+use Rattle.model.specs.Image.{Image, partitions, slots, get, lengthOf}
 use Rattle.model.specs.Acts.{Act, apply}
 use Rattle.model.specs.History.{Run, still, acted}
 use Rattle.model.specs.Judge.{judge}
@@ -19,13 +18,12 @@ use Rattle.model.proofs.Soundness.{sound-true}
 use Rattle.model.proofs.SoundnessActs.{run-kept, zeros-unsound}
 use Rattle.writer.specs.Record.{headingOf}
 use Rattle.journal.specs.Log.{logOf, replay}
-use Rattle.journal.specs.Recover.{recoverOf}
-use Rattle.journal.proofs.Any.{Kept, any-bytes}
+use Rattle.journal.proofs.Any.{any-bytes}
 use Rattle.journal.proofs.Demand.{replayed}
 use Rattle.promises.specs.Calls.{Call, actOf, Worded, formatting, calling}
 use Rattle.promises.specs.World.{Origin, as-lent, emptied, logged, World, lent, formatted, unformatted, called, refused, recovered, unrecovered, Lent, Emptied, Replayed, Stands}
 use Rattle.promises.proofs.Books.{Headed, reached-headed, format-limits, call-leaves}
-use Rattle.promises.proofs.Calling.{Accepting, call-judged, call-accepted, call-refused, format-accepted, format-refused}
+use Rattle.promises.proofs.Calling.{call-judged, call-accepted, call-refused, format-accepted, format-refused}
 use Rattle.promises.proofs.Leaving.{refused-recovery}
 
 -- an accepted call's image is sound

@@ -4,13 +4,11 @@ use Prim.Native.Nat.{ℕ, _+_, _-_, _≤_, _<_}
 use mathlib.Core.Path.{_≡_, refl, sym, ap, _∙_, subst}
 use mathlib.Core.Bool.{Bool, true, false, cond}
 use mathlib.Core.List.{List, [], _∷_, _++_}
-use mathlib.Core.Logic.{_≢_, ⊎-elim}
+use mathlib.Core.Logic.{_≢_}
 use native.Mathlib.Omega.{arith}
 use lib.Dec.{eqb, ltb, leb}
 use lib.ListN.{length, length-append}
 use borrow.Author.Tests.{eqb-true, eqb-false, ltb-true, lt-ltb, le-leb}
-use Rattle.loops.specs.Loop.{both}
-use Rattle.loops.proofs.Tests.{both-true}
 use Rattle.kinds.specs.Names.{mostOperations}
 use Rattle.kinds.specs.Answers.{refuse}
 use Rattle.kinds.specs.declared.Operation.{Operation as Op}
@@ -22,19 +20,19 @@ use Rattle.lines.specs.declared.line.Line.{Line}
 use Rattle.lines.specs.declared.line.Line.the-variants.{Heading, Operation, End, Open, Trace, Close, Bad}
 use Rattle.lines.specs.Line.{lineOf}
 use Rattle.lines.specs.Machine.{limit}
-use Rattle.model.specs.Image.{Image, partitions, slots, count, allowance, get, size, blank}
-use Rattle.model.specs.Acts.{Act, commit, opening, closing, trace, apply, perform, notClean}
-use Rattle.model.specs.Judge.{check, andThen, inLimits, judgeFormat, judgeOp, judgeOps, lowest, judge}
+use Rattle.model.specs.Image.{Image, partitions, count, allowance, get}
+use Rattle.model.specs.Acts.{Act, commit, opening, closing, trace, perform, notClean}
+use Rattle.model.specs.Judge.{check, andThen, judgeFormat, judgeOp, judgeOps, lowest, judge}
 use Rattle.model.specs.Sound.{SoundAt}
 use Rattle.model.proofs.Keys.{blank-partitions, blank-slots}
 use Rattle.model.proofs.SoundnessActs.{act-sound, act-partitions, act-slots, blank-sound}
-use Rattle.journal.specs.Recover.{Rule, rule, Stand, early, going, stopped, lineAt, told, act, alone, ended, formed, headed, firstLine, laterLine, next, Reader, reader, feed, feedAll, tailOk, Recovered, recovery, refusal, close, answer, recoverOf}
+use Rattle.journal.specs.Recover.{Rule, rule, Stand, early, going, stopped, lineAt, told, act, alone, ended, formed, headed, next, reader, feed, feedAll, tailOk, recovery, refusal, close, answer, recoverOf}
 use Rattle.journal.proofs.Looping.{at-once}
 use Rattle.catalogue.specs.Answers.{refusedWith}
 use Rattle.promises.specs.Rows.{Row, given, First, Lowest, operationsRows}
-use Rattle.promises.specs.Recovering.{NoHeading, sizeRows, NoShape, Waiting, Misplaced, Miscounted, actRows, lineRows, tailRows, recoverRows, saidKept, saidRecovered}
+use Rattle.promises.specs.Recovering.{sizeRows, Waiting, actRows, lineRows, tailRows, recoverRows, saidKept, saidRecovered}
 use Rattle.promises.proofs.Books.{Headed, format-limits}
-use Rattle.promises.proofs.Conditions.{test-lt, test-le, test-eq, test-ne, test-as, test-size, test-open, test-shut, test-rooted, test-unclean, found-lowest, none-lowest, test-led}
+use Rattle.promises.proofs.Conditions.{test-lt, test-le, test-eq, test-ne, test-size, test-open, test-shut, test-rooted, test-unclean, found-lowest, none-lowest, test-led}
 use Rattle.promises.proofs.Leaving.{refused-recovery}
 use Rattle.promises.proofs.Listing.{Tests, Found, found-none, found-here, found-later, found-check, found-then, found-stays, telled, first-found}
 use Rattle.promises.proofs.Refusals.{found-operations}

@@ -1,13 +1,13 @@
 -- Demand 1, the table of refusals: what each call says is what its list says, the number of the first row whose condition holds with its extra answer and
 -- nothing beside, and accepted with its values where no condition holds. `exactly` (Listing) says that a list says one thing only.
 -- Assumes nothing.
-use Prim.Native.Nat.{ℕ, _+_, _*_, _≤_, _<_}
-use mathlib.Core.Path.{_≡_, refl, sym, ap, _∙_, subst}
-use mathlib.Core.Bool.{Bool, true, false, cond, true≢false}
+use Prim.Native.Nat.{ℕ, _+_, _*_, _≤_}
+use mathlib.Core.Path.{_≡_, refl, sym, subst}
+use mathlib.Core.Bool.{Bool, true, false, true≢false}
 use mathlib.Core.List.{List, [], _∷_, _++_}
 use mathlib.Core.Logic.{_⊎_, inl, inr, ⊎-elim}
 use native.Mathlib.Omega.{arith}
-use lib.Dec.{eqb, ltb, leb}
+use lib.Dec.{ltb, leb}
 use lib.ListN.{length, take}
 use lib.Seq.{length-take-le}
 use borrow.Author.Tests.{eqb-true, eqb-false, leb-true, leb-false}
@@ -19,22 +19,21 @@ use Rattle.kinds.specs.declared.Partition.{Partition}
 use Rattle.kinds.specs.declared.Operation.{Operation}
 use Rattle.kinds.specs.declared.Operation.the-variants.{New, Set, Val, Root}
 use Rattle.kinds.specs.declared.Record.{Record}
-use Rattle.kinds.specs.declared.Refusal.{Refusal}
 use Rattle.kinds.specs.declared.Verdict.{Verdict}
 use Rattle.kinds.specs.declared.Verdict.the-variants.{Accepted, Refused}
 use Rattle.model.specs.Image.{Image, partitions, slots, count, allowance, get, lengthOf, place}
-use Rattle.model.specs.Acts.{commit, opening, closing, trace, perform, notClean, unmarked}
-use Rattle.model.specs.Judge.{check, andThen, judgeFormat, judgeOp, judgeOps, lowest, judge, judgeName}
+use Rattle.model.specs.Acts.{commit, opening, closing, trace, perform, unmarked}
+use Rattle.model.specs.Judge.{check, judgeFormat, judgeOp, judgeOps, lowest, judge, judgeName}
 use Rattle.model.specs.Questions.{readOf, ask}
 use Rattle.model.specs.Sound.{isSound}
 use Rattle.writer.specs.Record.{recordOf, headingOf}
 use Rattle.catalogue.specs.declared.Answer.the-variants.{Done, Refused as NotDone}
 use Rattle.catalogue.specs.declared.Closing.the-variants.{Refused as NotClosed}
-use Rattle.catalogue.specs.Answers.{Said, said, totals, saidClosing, saidReading, saidAsked}
+use Rattle.catalogue.specs.Answers.{said, totals, saidClosing, saidReading, saidAsked}
 use Rattle.catalogue.specs.Call.{judgeAct, judgeCommit, judgeObject, formatOf, callOf, commitOf, openOf, traceOf, closed, closeOf, reading, readingOf, asked, askedOf}
 use Rattle.promises.specs.Rows.{Row, given, telling, First, Unsound, WrongCount, NoRoom, Lowest, formatRows, operationRows, operationsRows, commitRows, openRows, traceRows, closeRows, objectRows}
 use Rattle.promises.proofs.Conditions.{test-lt, test-le, test-ne, test-both, test-as, test-sound, test-size, test-name, test-target, test-free, test-used, test-target-used, test-open, test-shut, test-rooted, test-unclean, found-lowest, none-lowest, one-lowest, test-led}
-use Rattle.promises.proofs.Listing.{Tests, Settled, Found, found-none, found-check, found-tell, found-then, telled, first-found, fully, said-perform}
+use Rattle.promises.proofs.Listing.{Tests, Settled, Found, found-none, found-check, found-tell, found-then, telled, first-found, said-perform}
 
 -- 17, judged last
 found-room : (bytes log : List ℕ) (at : ℕ) → Found (given 17 0 (NoRoom bytes at log) ∷ []) (check (leb (at + length bytes) (length log)) 17 0 Accepted)

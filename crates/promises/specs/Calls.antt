@@ -10,7 +10,7 @@ use Rattle.writer.specs.Record.{opsOf}
 use Rattle.journal.specs.Log.{Payloads}
 use Rattle.catalogue.specs.declared.Answer.{Answer}
 use Rattle.catalogue.specs.declared.Closing.{Closing}
-use Rattle.catalogue.specs.Answers.{Said, Totals, said, saidClosing}
+use Rattle.catalogue.specs.Answers.{said, saidClosing}
 use Rattle.catalogue.specs.Call.{Outcome, formatOf, commitOf, openOf, traceOf, closeOf}
 
 -- a call on a heap, with its arguments; of a commit's 32 operations the first n count
