@@ -3,7 +3,7 @@
 use Prim.Native.Nat.{ℕ, _*_, _<_}
 use mathlib.Core.Path.{_≡_, refl, subst}
 use mathlib.Core.Bool.{true}
-use mathlib.Core.Logic.{⊎-elim}
+use mathlib.Core.Logic.{_≢_, ⊎-elim}
 use lib.ListN.{replicate}
 use borrow.Author.Tests.{eqb-false, ne-eqb, not-true}
 use Rattle.model.specs.Image.{Image, Key, root, field, anchors, get, placeOf, Holder, a-root, a-field}
@@ -11,10 +11,10 @@ use Rattle.model.specs.Spread.{Reach, start, step}
 use Rattle.model.specs.Questions.{hasBit, addBit, held, rootBits, reachedBits, ask}
 use Rattle.model.specs.Chains.{Names, Leads}
 use Rattle.model.proofs.Spreading.{Spreads, Edge, complete, least}
-use Rattle.model.proofs.Moves.{Linked}
 use Rattle.model.proofs.Bits.{Wide, none-wide, none-has, bit-spreads, collect-wide, collect-only, collect-has}
 
-module _ (P S : ℕ) (x : Image) (w : Linked P S x) where
+-- all that is asked of the image: every reference leads to one of its places
+module _ (P S : ℕ) (x : Image) (refs : (κ : Key) → Holder (P * S) κ → get x κ ≢ 0 → placeOf S (get x κ) < P * S) where
   pub held-is : (κ : Key) → held x κ ≡ true → Names S x κ (placeOf S (get x κ))
   held-is κ e = record { some = eqb-false _ _ (not-true _ e); target = refl }
 
@@ -22,7 +22,7 @@ module _ (P S : ℕ) (x : Image) (w : Linked P S x) where
   held-so κ t n = rw (ne-eqb (get x κ) 0 (n .some))
 
   pub named-in : (κ : Key) → Holder (P * S) κ → (t : ℕ) → Names S x κ t → t < P * S
-  named-in κ h t n = rw (← n .target) (w .refs κ h (n .some) .0)
+  named-in κ h t n = rw (← n .target) (refs κ h (n .some))
 
   root-in : (r : ℕ) → r < anchors → held x (root r) ≡ true → placeOf S (get x (root r)) < P * S
   root-in r l e = named-in (root r) (a-root l) _ (held-is (root r) e)

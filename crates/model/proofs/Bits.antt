@@ -16,7 +16,7 @@ use Rattle.model.proofs.Keys.{zeros}
 use Rattle.model.proofs.Spreading.{Spreads}
 
 module _ (n : ℕ) where
-  pub Wide : Bits → Type 0
+  unfoldable pub Wide : Bits → Type 0
   Wide b = length b ≡ n
 
   pub bit-same : (b : Bits) (t : ℕ) → Wide b → t < n → hasBit (addBit b t) t ≡ true
