@@ -178,7 +178,7 @@ pub length-sized : (P S : ℕ) (img : Image) → Sized (P * S) img → lengthOf 
 unfolding Sized lengthOf size
 length-sized P S img z = z
 
-zeros : (n a : ℕ) → _≡_ {A = ℕ} (getD (replicate n 0) a 0) 0
+pub zeros : (n a : ℕ) → _≡_ {A = ℕ} (getD (replicate n 0) a 0) 0
 zeros zero a = refl
 zeros (suc n) zero = refl
 zeros (suc n) (suc a) = zeros n a

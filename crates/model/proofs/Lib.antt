@@ -1,2 +1,15 @@
 pub mod Keys
 pub mod Soundness
+pub mod SoundnessMoves
+pub mod SoundnessActs
+pub mod Places
+pub mod Spreading
+pub mod Moves
+pub mod Tracing
+pub mod Committing
+pub mod Opening
+pub mod Closing
+pub mod Making
+pub mod Reaching
+pub mod Refusing
+pub mod Bound

@@ -14,6 +14,7 @@ use Rattle.kinds.specs.Names.{radix, mostPartitions, mostSlots}
 use Rattle.model.specs.Image.{Image, Key, root, flag, state, payload, field, partitions, slots, phase, count, allowance, anchors, get, lengthOf, size, placeOf, Holder, a-root, a-field}
 use Rattle.model.specs.Acts.{used, marked, isOpen}
 use Rattle.model.specs.Judge.{inLimits}
+use Rattle.model.proofs.Places.{Shape}
 use Rattle.model.specs.Sound.{inRange, refOk, freeOk, slotOk, rootOk, flagOk, flagDown, unmarkedAt, openOk, shutOk, soundAt, isSound, NamesUsed, Free, ShutHead, OpenHead, SoundAt, Sound}
 
 -- what a test of the form "this, or else that" tells, and how it passes
@@ -25,11 +26,8 @@ cond-so true b h = refl
 cond-so false b h = h refl
 
 -- P is 1 to 16, S is 1 to 64
-pub record Limits (P S : ℕ) : Type 0 where
-  pub some-partition : 0 < P
-  pub partitions-most : P ≤ mostPartitions
-  pub some-slot : 0 < S
-  pub slots-most : S ≤ mostSlots
+abbrev pub Limits : ℕ → ℕ → Type 0
+Limits P S = Shape P S
 
 module _ (P S : ℕ) where
   pub limits-true : inLimits P S ≡ true → Limits P S

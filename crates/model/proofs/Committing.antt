@@ -1,0 +1,222 @@
+-- An accepted operation keeps a phase, and a shut heap.
+-- Assumes nothing.
+use Prim.Native.Nat.{ℕ, _+_, _*_, _<_}
+use mathlib.Core.Path.{_≡_, refl, sym, _∙_, subst}
+use mathlib.Core.Bool.{Bool, true, false, not, cond}
+use mathlib.Core.List.{List, [], _∷_}
+use mathlib.Core.Logic.{_≢_, _⊎_, inl, inr, ⊎-elim}
+use native.Mathlib.Omega.{arith}
+use native.Mathlib.Decide.{ℕ-discrete}
+use lib.Dec.{eqb, ltb}
+use borrow.Author.Tests.{eqb-true, eqb-false, ne-eqb, not-true, not-false, ltb-true}
+use Rattle.loops.specs.Loop.{both}
+use Rattle.loops.proofs.Tests.{both-true}
+use Rattle.kinds.specs.Names.{roots, wordOf}
+use Rattle.kinds.specs.declared.Name.{Name}
+use Rattle.kinds.specs.declared.Target.{Target}
+use Rattle.kinds.specs.declared.Target.the-variants.{Nothing, Object}
+use Rattle.kinds.specs.declared.Operation.{Operation}
+use Rattle.kinds.specs.declared.Operation.the-variants.{New, Set, Val, Root}
+use Rattle.kinds.specs.declared.Verdict.{Verdict}
+use Rattle.kinds.specs.declared.Verdict.the-variants.{Accepted, Refused}
+use Rattle.model.specs.Image.{Image, Key, root, state, payload, field, phase, anchors, get, put, place, placeOf, Holder, a-root, a-field}
+use Rattle.model.specs.Acts.{used, isOpen, mark, markWord, store, born, perform, performAll}
+use Rattle.model.specs.Judge.{check, andThen, inHeap, targetInHeap, targetUsed, judgeOp, judgeOps}
+use Rattle.model.proofs.Keys.{Sized, in-fits, get-put-apart, sized-put, get-put-same}
+use Rattle.model.proofs.Places.{Shape, slot-in, word-none, place-word}
+use Rattle.model.proofs.Moves.{holder-in, Linked, a-payload, plain-holder, state-holder, Phase, grow-linked, up-linked, up-plain, open-true, phase-mark, phase-payload, phase-born, refer-state, refer-head, linked-refer, phase-refer}
+use Rattle.model.proofs.Tracing.{mark-read, mark-marks}
+
+pub check-true : (b : Bool) (n e : ℕ) (v : Verdict) → check b n e v ≡ Accepted → (b ≡ true) × (v ≡ Accepted)
+unfolding check
+check-true true n e v q = (refl, q)
+check-true false n e v q = ((cc), (cc))
+
+pub then-true : (u v : Verdict) → andThen u v ≡ Accepted → (u ≡ Accepted) × (v ≡ Accepted)
+unfolding andThen
+then-true Accepted v q = (refl, q)
+then-true (Refused r) v q = (q, (cc))
+
+pub used-true : (x : Image) (i : ℕ) → used x i ≡ true → get x (state i) ≢ 0
+used-true x i e = eqb-false _ _ (not-true _ e)
+
+used-false : (x : Image) (i : ℕ) → not (used x i) ≡ true → get x (state i) ≡ 0
+used-false x i e = eqb-true _ _ (not-false _ (not-true _ e))
+
+-- a target that may be stored: nothing, or an object in use
+pub data May (P S : ℕ) (x : Image) : Target → Type 0 where
+  none : May P S x Nothing
+  some : {q : Name} → q .partition .0 < P → q .slot .0 < S → get x (state (place S q)) ≢ 0 → May P S x (Object q)
+
+-- numbers that are not too large
+in-heap : (P S : ℕ) (n : Name) → inHeap P S n ≡ true → (n .partition .0 < P) × (n .slot .0 < S)
+in-heap P S n e = let b = both-true (ltb (n .partition .0) P) (ltb (n .slot .0) S) e in (ltb-true _ _ (b .0), ltb-true _ _ (b .1))
+
+may : (P S : ℕ) (x : Image) (t : Target) → targetInHeap P S t ≡ true → targetUsed S x t ≡ true → May P S x t
+may P S x Nothing r u = none
+may P S x (Object q) r u = let b = in-heap P S q r in some (b .0) (b .1) (used-true x _ u)
+
+-- what an accepted operation may rely on
+pub data Good (P S : ℕ) (x : Image) : Operation → Type 0 where
+  good-new : {n : Name} {v : ℕ} → n .partition .0 < P → n .slot .0 < S → get x (state (place S n)) ≡ 0 → Good P S x (New n v)
+  good-set : {n : Name} {k : ℕ} {t : Target} → n .partition .0 < P → n .slot .0 < S → k < 4 → get x (state (place S n)) ≢ 0 → May P S x t → Good P S x (Set n k t)
+  good-val : {n : Name} {v : ℕ} → n .partition .0 < P → n .slot .0 < S → get x (state (place S n)) ≢ 0 → Good P S x (Val n v)
+  good-root : {r : ℕ} {t : Target} → r < anchors → May P S x t → Good P S x (Root r t)
+
+pub good : (P S : ℕ) (x : Image) (e : ℕ) (o : Operation) → judgeOp P S x e o ≡ Accepted → Good P S x o
+unfolding judgeOp
+good P S x e (New n v) j =
+    let a = check-true _ _ _ _ j in
+    let b = in-heap P S n (a .0) in
+    good-new (b .0) (b .1) (used-false x _ (check-true _ _ _ _ (a .1) .0))
+good P S x e (Set n k t) j =
+    let a = check-true _ _ _ _ j in
+    let h = both-true (inHeap P S n) (both (ltb k 4) (targetInHeap P S t)) (a .0) in
+    let b = in-heap P S n (h .0) in
+    let d = both-true (ltb k 4) (targetInHeap P S t) (h .1) in
+    let u = check-true _ _ _ _ (a .1) in
+    good-set (b .0) (b .1) (ltb-true _ _ (d .0)) (used-true x _ (u .0)) (may P S x t (d .1) (check-true _ _ _ _ (u .1) .0))
+good P S x e (Val n v) j =
+    let a = check-true _ _ _ _ j in
+    let b = in-heap P S n (a .0) in
+    good-val (b .0) (b .1) (used-true x _ (check-true _ _ _ _ (a .1) .0))
+good P S x e (Root r t) j =
+    let a = check-true _ _ _ _ j in
+    let b = both-true (ltb r roots) (targetInHeap P S t) (a .0) in
+    let l = ltb-true r roots (b .0) in
+    good-root {r = r} (omega arith) (may P S x t (b .1) (check-true _ _ _ _ (a .1) .0))
+
+-- whatever each operation keeps, a commit keeps
+pub commit-keeps : (P S : ℕ) (Q : Image → Type 0) → ((x : Image) (o : Operation) → Good P S x o → Q x → Q (perform S x o))
+    → (x : Image) (e : ℕ) (os : List Operation) → judgeOps P S x e os ≡ Accepted → Q x → Q (performAll S x os)
+unfolding judgeOps performAll
+commit-keeps P S Q h x e [] j q = q
+commit-keeps P S Q h x e (o ∷ os) j q =
+    let a = then-true _ _ j in
+    commit-keeps P S Q h (perform S x o) (e + 1) os (a .1) (h x o (good P S x e o (a .0)) q)
+
+pub at-field : (Q : ℕ → Type 0) {i k : ℕ} → Q i → (j c : ℕ) → field i k ≡ field j c → Q j
+at-field Q {i} {k} q j c e = let r : i ≡ j = cc in rw (← r) q
+
+pub no-field : (Q : ℕ → Type 0) {r : ℕ} (j c : ℕ) → root r ≡ field j c → Q j
+no-field Q j c e = let z : _≡_ {A = ℕ} 0 1 = cc in absurd (omega arith)
+
+module _ (P S : ℕ) (shape : Shape P S) where
+  pub mark-used : (x : Image) (t j : ℕ) → t < P * S → Linked P S x → get x (state j) ≢ 0 → get (mark S x t) (state j) ≢ 0
+  mark-used x t j l w u = go (ℕ-discrete t j)
+    where
+      go : Dec (t ≡ j) → get (mark S x t) (state j) ≢ 0
+      go (yes e) =
+          let two : get (mark S x t) (state j) ≡ 2 = subst (λ (v : ℕ). get (mark S x t) (state v) ≡ 2) e (mark-marks P S shape x t l w (rw e u)) in
+          λ z. omega arith
+      go (no e) = λ z. u (sym (mark-read P S shape x t (state j) l tt (ne-eqb t j e) refl) ∙ z)
+
+  -- a target that may be stored names an object in use
+  pub target-used : (x : Image) (t : Target) → May P S x t → wordOf t ≢ 0 → (placeOf S (wordOf t) < P * S) × (get x (state (placeOf S (wordOf t))) ≢ 0)
+  target-used x _ none ne = absurd (ne word-none)
+  target-used x _ (some {q = q} lq ls u) ne = rw (place-word S q (omega arith)) (slot-in P S (shape .some-slot) _ _ lq ls, u)
+
+  -- the marking of a target that may be stored: nothing, or one mark
+  pub mark-word-keeps : (Q : Image → Type 0) (x : Image) (w : ℕ) → (w ≢ 0 → Q (mark S x (placeOf S w))) → (w ≡ 0 → Q x) → Q (markWord S x w)
+  unfolding markWord
+  mark-word-keeps Q x w h k = go (eqb w 0) refl
+    where
+      go : (b : Bool) → eqb w 0 ≡ b → Q (cond b x (mark S x (placeOf S w)))
+      go true e = k (eqb-true _ _ e)
+      go false e = h (eqb-false _ _ e)
+
+  -- a heap between phases
+  pub record Shut (x : Image) : Type 0 where
+    pub linked : Linked P S x
+    pub shut : get x phase ≡ 0
+    pub plain : (i : ℕ) → i < P * S → get x (state i) ≢ 2
+
+  pub shut-false : (x : Image) → Shut x → isOpen x ≡ false
+  shut-false x sh = ne-eqb _ _ (λ e. let z : _≡_ {A = ℕ} 0 1 = sym (sh .shut) ∙ e in omega arith)
+
+  -- a reference stored in a phase: its target is marked first
+  pub record Stored (x : Image) (w : ℕ) (y : Image) : Type 0 where
+    pub phase : Phase P S y
+    pub used : (j : ℕ) → get x (state j) ≢ 0 → get y (state j) ≢ 0
+    pub marked : w ≢ 0 → (placeOf S w < P * S) × (get y (state (placeOf S w)) ≡ 2)
+
+  pub stored : (x : Image) (t : Target) → May P S x t → Phase P S x → Stored x (wordOf t) (markWord S x (wordOf t))
+  stored x t m ph =
+      mark-word-keeps (Stored x (wordOf t)) x (wordOf t)
+      (λ ne.
+      let u = target-used x t m ne in
+      record {
+        phase = phase-mark P S shape x _ (u .0) ph;
+        used = λ j. mark-used x _ j (u .0) (ph .linked);
+        marked = λ z. (u .0, mark-marks P S shape x _ (u .0) (ph .linked) (u .1));
+      })
+      (λ e. record { phase = ph; used = λ j u. u; marked = λ ne. absurd (ne e) })
+
+  pub phase-store : (x : Image) (κ : Key) (t : Target) → Holder (P * S) κ → ((i k : ℕ) → κ ≡ field i k → get x (state i) ≢ 0) → May P S x t → Phase P S x → Phase P S (store S x κ t)
+  unfolding store
+  phase-store x κ t h u m ph =
+      let s = stored x t m ph in
+      rw (open-true P S shape x ph) (phase-refer P S shape _ κ (wordOf t) h (s .phase .linked .size) (λ j k e. s .used j (u j k e)) (s .marked) (s .phase))
+
+  shut-store : (x : Image) (κ : Key) (t : Target) → Holder (P * S) κ → ((i k : ℕ) → κ ≡ field i k → get x (state i) ≢ 0) → May P S x t → Shut x → Shut (store S x κ t)
+  unfolding store
+  shut-store x κ t h u m sh =
+      rw (shut-false x sh)
+      (record {
+        linked = linked-refer P S shape x κ (wordOf t) h (sh .linked .size) u (target-used x t m) (sh .linked);
+        shut = refer-head P S shape x κ (wordOf t) h (sh .linked .size) 2 (omega arith) ∙ sh .shut;
+        plain = λ i l. rw (refer-state P S shape x κ (wordOf t) h (sh .linked .size) i) (sh .plain i l);
+      })
+
+  -- a put that keeps a shut heap: of a state to 1, or of a payload
+  shut-born : (x : Image) (i v : ℕ) → i < P * S → Shut x → Shut (born x i v)
+  unfolding born
+  shut-born x i v l sh =
+      rw (shut-false x sh)
+      (record {
+        linked =
+            grow-linked P S shape x _
+            (record {
+              size = sized-put _ _ _ _ (sized-put _ _ _ _ z);
+              states = λ j m. ⊎-elim (λ q. inl q) (λ q. inr (λ w. omega arith, omega arith)) (go j (ℕ-discrete i j));
+              holders = hd;
+            })
+            (sh .linked);
+        shut = get-put-apart y (payload i) v phase tt (omega arith) refl ∙ get-put-apart x (state i) 1 phase tt (omega arith) refl ∙ sh .shut;
+        plain = λ j m e. ⊎-elim (λ q. sh .plain j m (sym q ∙ e)) (λ q. omega arith) (go j (ℕ-discrete i j));
+      })
+    where
+      z : Sized (P * S) x
+      z = sh .linked .size
+
+      y : Image
+      y = put x (state i) 1
+
+      go : (j : ℕ) → Dec (i ≡ j) → (get (put y (payload i) v) (state j) ≡ get x (state j)) ⊎ (get (put y (payload i) v) (state j) ≡ 1)
+      go j (yes e) = inr (get-put-apart y (payload i) v (state j) tt tt refl ∙ rw (← e) (get-put-same (P * S) x (state i) 1 z l))
+      go j (no e) = inl (get-put-apart y (payload i) v (state j) tt tt refl ∙ get-put-apart x (state i) 1 (state j) tt tt (ne-eqb i j e))
+
+      hd : (κ : Key) → Holder (P * S) κ → get (put y (payload i) v) κ ≡ get x κ
+      hd κ h = let f = in-fits (P * S) κ (holder-in h) in get-put-apart y (payload i) v κ tt f (plain-holder (a-payload l) h) ∙ get-put-apart x (state i) 1 κ tt f (state-holder h i)
+
+  shut-payload : (x : Image) (i v : ℕ) → i < P * S → Shut x → Shut (put x (payload i) v)
+  shut-payload x i v l sh =
+      record {
+        linked = up-linked P S shape x _ (up-plain P S shape x (payload i) v (a-payload l) (sh .linked .size)) (sh .linked);
+        shut = get-put-apart x (payload i) v phase tt (omega arith) refl ∙ sh .shut;
+        plain = λ j m. rw (get-put-apart x (payload i) v (state j) tt tt refl) (sh .plain j m);
+      }
+
+  pub phase-perform : (x : Image) (o : Operation) → Good P S x o → Phase P S x → Phase P S (perform S x o)
+  unfolding perform
+  phase-perform x _ (good-new lp ls e) ph = phase-born P S shape x _ _ (slot-in P S (shape .some-slot) _ _ lp ls) e ph
+  phase-perform x _ (good-set lp ls lk u m) ph = phase-store x _ _ (a-field (slot-in P S (shape .some-slot) _ _ lp ls) lk) (at-field (λ j. get x (state j) ≢ 0) u) m ph
+  phase-perform x _ (good-val lp ls u) ph = phase-payload P S shape x _ _ (slot-in P S (shape .some-slot) _ _ lp ls) ph
+  phase-perform x _ (good-root lr m) ph = phase-store x _ _ (a-root lr) (no-field (λ j. get x (state j) ≢ 0)) m ph
+
+  pub shut-perform : (x : Image) (o : Operation) → Good P S x o → Shut x → Shut (perform S x o)
+  unfolding perform
+  shut-perform x _ (good-new lp ls e) sh = shut-born x _ _ (slot-in P S (shape .some-slot) _ _ lp ls) sh
+  shut-perform x _ (good-set lp ls lk u m) sh = shut-store x _ _ (a-field (slot-in P S (shape .some-slot) _ _ lp ls) lk) (at-field (λ j. get x (state j) ≢ 0) u) m sh
+  shut-perform x _ (good-val lp ls u) sh = shut-payload x _ _ (slot-in P S (shape .some-slot) _ _ lp ls) sh
+  shut-perform x _ (good-root lr m) sh = shut-store x _ _ (a-root lr) (no-field (λ j. get x (state j) ≢ 0)) m sh
