@@ -1,0 +1,39 @@
+-- Format: what its judge answers by the paper's conditions, and what putting P and S into zeros leaves.
+-- Assumes nothing.
+use Prim.Native.Nat.{ℕ, suc, _+_, _*_, _-_, _≤_}
+use mathlib.Core.Path.{_≡_, refl, sym}
+use mathlib.Core.Bool.{Bool, true, false}
+use native.Mathlib.Nat.{mul-le-mul}
+use native.Mathlib.Omega.{arith}
+use lib.Dec.{eqb}
+use lib.ListN.{length, set, replicate}
+use borrow.Author.Tests.{eq-eqb, eqb-true}
+use Rattle.loops.specs.Loop.{both}
+use Rattle.loops.proofs.Tests.{both-true, is-false}
+use Rattle.kinds.specs.Names.{mostPartitions, mostSlots}
+use Rattle.kinds.specs.Answers.{refuse}
+use Rattle.kinds.specs.declared.Verdict.{Verdict}
+use Rattle.kinds.specs.declared.Verdict.the-variants.{Accepted}
+use Rattle.model.specs.Image.{Image, front, stride, lengthOf, size, blank}
+use Rattle.model.specs.Judge.{check, inLimits, judgeFormat}
+use Rattle.model.proofs.Soundness.{Limits, limits-true, limits-back}
+
+pub room : (p s : ℕ) → p ≤ mostPartitions → s ≤ mostSlots → p * s ≤ mostPartitions * mostSlots
+room p s h k = mul-le-mul {n₁ = p} {m₁ = s} {n₂ = mostPartitions} {m₂ = mostSlots} h k
+
+module _ (p s len : ℕ) where
+  pub format-so : Limits p s → len ≡ size p s → Accepted ≡ judgeFormat p s len
+  unfolding judgeFormat check
+  format-so l e = rw (limits-back p s l, eq-eqb len (size p s) e)
+
+  pub format-not : (Limits p s → len ≡ size p s → ⊥) → refuse 2 0 ≡ judgeFormat p s len
+  unfolding judgeFormat check
+  format-not h =
+      rw (is-false (both (inLimits p s) (eqb len (size p s))) (λ e.
+      let b = both-true (inLimits p s) (eqb len (size p s)) e in
+      h (limits-true p s (b .0)) (eqb-true len (size p s) (b .1))))
+
+-- zeros with P and S put in are a blank image
+pub formatted : (p s : ℕ) (x : Image) → lengthOf x ≡ size p s → set (set (replicate (length x) 0) 0 p) 1 s ≡ blank p s
+unfolding blank lengthOf size
+formatted p s x h = let e : length x ≡ suc (suc (front - 2 + stride * (p * s))) = omega arith in rw e

@@ -1,0 +1,28 @@
+-- `image::refer_root` meets its contract. Assumes nothing.
+use Rattle.model.specs.Image.{put, addr, refer}
+use mathlib.Core.Path.{refl}
+use borrow.Author.Needs.{needs}
+use Rattle.image.proofs.refer_root.Statement.{statement}
+use Rattle.image.proofs.refer_root.Tie as tie
+
+add-img : tie.Need-add-img
+unfolding addr
+add-img c = search needs
+
+mul-img : tie.Need-mul-img
+unfolding addr
+mul-img c = search needs
+
+slice-write-img : tie.Need-slice-write-img
+unfolding addr
+slice-write-img c = search needs
+
+same-length : tie.Need-same-length
+same-length c = search needs
+
+returns : tie.Need-returns
+unfolding refer put addr
+returns c = refl
+
+pub refer-root-spec : {M : Type 1} → statement M
+refer-root-spec = tie.close (tie.spec add-img mul-img slice-write-img same-length returns)

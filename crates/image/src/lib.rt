@@ -1,0 +1,145 @@
+// The image as code: places, marks, and the two ways in which a reference changes, over lent words. Each function is proved equal to
+// the model's definition of the same name. An inner function asks for an address in range, not for a sound image; what keeps every
+// reference in range is `Within` (specs/Within.antt), which follows from soundness and is kept by every move (proofs/Within.antt).
+ghost use mathlib.Core.Path.{_≡_};
+ghost use mathlib.Core.Logic.{_≢_};
+ghost use Prim.Native.Nat.{_*_, _<_, _≤_};
+ghost use lib.ListN.{length, replicate};
+ghost use Rattle.kinds.specs.Names.{mostPartitions, mostSlots};
+ghost use Rattle.model.specs.Image.{root, state, field, addr, lengthOf, size, blank, place, placeOf, partOf, refer, release};
+ghost use Rattle.model.specs.Judge.{judgeFormat};
+ghost use Rattle.model.specs.Acts.{mark, markWord};
+ghost use Rattle.image.specs.Within.{Within};
+
+// The words before the slots, and the words of a slot.
+pub const FRONT: usize = 37;
+
+pub const STRIDE: usize = 6;
+
+// The holders that are no fields.
+pub const ANCHORS: usize = 16;
+
+// Where the roots and the flags begin, and the words of the head.
+pub const ROOT: usize = 5;
+
+pub const FLAG: usize = 21;
+
+pub const PHASE: usize = 2;
+
+pub const COUNT: usize = 3;
+
+pub const ALLOWANCE: usize = 4;
+
+// The place of a name.
+pub fn place(n: kinds::Name, s: usize) -> usize
+    requires { ⌜ (n .partition .0 < mostPartitions) × (n .slot .0 < mostSlots) × (s ≤ mostSlots) ⌝ }
+    ensures { λ r. ⌜ r ≡ place s n ⌝ }
+{
+    n.partition.0 as usize * s + n.slot.0 as usize
+}
+
+// The place that a reference word names.
+pub fn place_of(w: u32, s: usize) -> usize
+    requires { ⌜ s ≤ mostSlots ⌝ }
+    ensures { λ r. ⌜ r ≡ placeOf s w ⌝ }
+{
+    if w == 0 {
+        return 0;
+    }
+    let k = w - 1;
+    let p = k / kinds::Target::RADIX;
+    let t = k % kinds::Target::RADIX;
+    p as usize * s + t as usize
+}
+
+// An unmarked object becomes marked, and its partition not clean.
+pub fn mark(img: &mut [u32], s: usize, j: usize)
+    requires { ⌜ (0 < s) × (partOf s j < mostPartitions) × (addr (state j) < length (now img)) ⌝ }
+    ensures { λ _. ⌜ now (img .exit) ≡ mark s (now (img .entry)) j ⌝ }
+{
+    let at = FRONT + STRIDE * j;
+    if img[at] == 1 {
+        let p = j / s;
+        img[FLAG + p] = 0;
+        img[at] = 2;
+    }
+}
+
+// What a reference word names becomes marked.
+pub fn mark_word(img: &mut [u32], p: usize, s: usize, w: u32)
+    requires { ⌜ Within p s (now img) ⌝ }
+    requires { ⌜ (w ≢ 0 → placeOf s w < p * s) ⌝ }
+    ensures { λ _. ⌜ now (img .exit) ≡ markWord s (now (img .entry)) w ⌝ }
+{
+    if w != 0 {
+        let j = place_of(w, s);
+        mark(img, s, j);
+    }
+}
+
+// A root takes a reference.
+pub fn refer_root(img: &mut [u32], s: usize, r: usize, w: u32)
+    requires { ⌜ addr (root r) < length (now img) ⌝ }
+    ensures { λ _. ⌜ now (img .exit) ≡ refer s (now (img .entry)) (root r) w ⌝ }
+{
+    img[ROOT + r] = w;
+}
+
+// A field takes a reference.
+pub fn refer_field(img: &mut [u32], s: usize, j: usize, k: usize, w: u32)
+    requires { ⌜ addr (field j k) < length (now img) ⌝ }
+    ensures { λ _. ⌜ now (img .exit) ≡ refer s (now (img .entry)) (field j k) w ⌝ }
+{
+    img[FRONT + STRIDE * j + 2 + k] = w;
+}
+
+// A freed object's reference goes.
+pub fn release_field(img: &mut [u32], s: usize, j: usize, k: usize)
+    requires { ⌜ addr (field j k) < length (now img) ⌝ }
+    ensures { λ _. ⌜ now (img .exit) ≡ release s (now (img .entry)) (field j k) ⌝ }
+{
+    img[FRONT + STRIDE * j + 2 + k] = 0;
+}
+
+// All words become 0.
+pub fn clear(img: &mut [u32])
+    ensures { λ _. ⌜ now (img .exit) ≡ replicate (length (now (img .entry))) 0 ⌝ }
+{
+    let mut i: usize = 0;
+    while i < img.len() {
+        img[i] = 0;
+        i += 1;
+    }
+}
+
+// Format: 2 unless P and S are in range and agree with the length.
+pub fn judge_format(len: usize, p: u32, s: u32) -> kinds::Verdict
+    ensures { λ r. ⌜ r ≡ judgeFormat p s len ⌝ }
+{
+    if p == 0 {
+        return kinds::Verdict::refuse(kinds::Refusal::SIZE, 0);
+    }
+    if p > kinds::Partition::LIMIT {
+        return kinds::Verdict::refuse(kinds::Refusal::SIZE, 0);
+    }
+    if s == 0 {
+        return kinds::Verdict::refuse(kinds::Refusal::SIZE, 0);
+    }
+    if s > kinds::Slot::LIMIT {
+        return kinds::Verdict::refuse(kinds::Refusal::SIZE, 0);
+    }
+    if len != FRONT + STRIDE * ((p * s) as usize) {
+        return kinds::Verdict::refuse(kinds::Refusal::SIZE, 0);
+    }
+    kinds::Verdict::Accepted
+}
+
+// The act format: P, S, phase shut, nothing else set.
+pub fn format(img: &mut [u32], p: u32, s: u32)
+    requires { ⌜ lengthOf (now img) ≡ size p s ⌝ }
+    ensures { λ _. ⌜ now (img .exit) ≡ blank p s ⌝ }
+{
+    clear(&mut *img);
+    img[0] = p;
+    img[1] = s;
+}
