@@ -12,7 +12,7 @@ use lib.ListN.{length}
 use borrow.Author.Tests.{eqb-true, eqb-false}
 use Rattle.loops.proofs.Tests.{both-true, clash}
 use Rattle.kinds.specs.Names.{mostPartitions, mostSlots, radix}
-use Rattle.model.specs.Image.{Image, Key, head, root, flag, state, payload, field, get, put, placeOf, partOf, refer, release, Holder, a-root, a-field, lengthOf, size}
+use Rattle.model.specs.Image.{Image, Key, head, root, flag, state, payload, field, addr, get, put, placeOf, partOf, refer, release, Holder, a-root, a-field, lengthOf, size}
 use Rattle.model.specs.Acts.{mark, markWord}
 use Rattle.model.specs.Sound.{SoundAt, NamesUsed}
 use Rattle.model.proofs.Keys.{Fits, In, Sized, same, touches, get-put-apart, sized-put, sized-length, refer-apart, refer-same, sized-refer, release-apart, release-same, sized-release}
@@ -135,13 +135,18 @@ module _ (P S : ℕ) (x : Image) where
         go μ i false e = kept (release S x κ) μ i (release-apart S x κ μ (holder-fits (P * S) κ k) (holder-fits (P * S) μ i) e)
 
 module _ (P S : ℕ) (x : Image) (h : Within P S x) where
+  -- what the code of a mark asks for
+  pub mark-ready : (j : ℕ) → j < P * S → (0 < S) × (partOf S j < mostPartitions) × (addr (state j) < length x)
+  unfolding addr
+  mark-ready j l = (h .some-slot, lt-of-lt-of-le (part-in P S j (h .some-slot) l) (h .small), omega (arith, h .long))
+
   pub within-mark : (j : ℕ) → j < P * S → Within P S (mark S x j)
   unfolding mark
   within-mark j l = go (eqb (get x (state j)) 1)
     where
       go : (b : Bool) → Within P S (cond b (put (put x (flag (partOf S j)) 0) (state j) 2) x)
       go true =
-          within-put P S (put x (flag (partOf S j)) 0) (within-put P S x h (flag (partOf S j)) 0 (lt-of-lt-of-le (part-in P S j (h .some-slot) l) (h .small)))
+          within-put P S (put x (flag (partOf S j)) 0) (within-put P S x h (flag (partOf S j)) 0 (mark-ready j l .1))
           (state j) 2 tt
       go false = h
 

@@ -1,5 +1,5 @@
-// The image as code: places, marks, and the two ways in which a reference changes, over lent words. Each function is proved equal to
-// the model's definition of the same name. An inner function asks for an address in range, not for a sound image; what keeps every
+// The image as code: places, marks, the two ways in which a reference changes, and format, over lent words. Each function is proved
+// equal to the model's definition of the same name. An inner function asks for an address in range, not for a sound image; what keeps every
 // reference in range is `Within` (specs/Within.antt), which follows from soundness and is kept by every move (proofs/Within.antt).
 ghost use mathlib.Core.Path.{_≡_};
 ghost use mathlib.Core.Logic.{_≢_};

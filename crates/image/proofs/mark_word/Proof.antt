@@ -1,13 +1,7 @@
 -- `image::mark_word` meets its contract. Assumes nothing.
-use mathlib.Core.Path.{subst}
-use Prim.Native.Nat.{ℕ, _<_, _*_}
-use native.Mathlib.Nat.{lt-of-lt-of-le}
-use Rattle.image.proofs.Within.{part-in}
+use Rattle.image.proofs.Within.{mark-ready}
 use borrow.Author.Tests.{ne-eqb}
 use Rattle.model.specs.Acts.{mark, markWord}
-use Rattle.model.specs.Image.{placeOf, addr}
-use mathlib.Core.Path.{sym}
-use native.Mathlib.Omega.{arith}
 use borrow.Author.Needs.{needs}
 use Rattle.image.proofs.mark_word.Statement.{statement}
 use Rattle.image.proofs.mark_word.Tie as tie
@@ -16,11 +10,9 @@ place-of-requires : tie.Need-place-of-requires
 place-of-requires c κs = search needs
 
 mark-requires : tie.Need-mark-requires
-unfolding addr
-mark-requires c κs = let h = c .before .before .before .before .pre .0 in
-    let e : placeOf (c .before .before .before .before .args .s) (c .before .before .before .before .args .w) < c .before .before .before .before .args .p * c .before .before .before .before .args .s = c .before .before .before .before .pre .1 (c .before .before .if1 .taken) in
-    let l : c .before .place-of .result < c .before .before .before .before .args .p * c .before .before .before .before .args .s = subst (λ (j : ℕ). j < c .before .before .before .before .args .p * c .before .before .before .before .args .s) (sym (c .before .place-of .ensures)) e in
-    (h .some-slot, lt-of-lt-of-le (part-in (c .before .before .before .before .args .p) (c .before .before .before .before .args .s) (c .before .place-of .result) (h .some-slot) l) (h .small), omega (arith, h .long))
+mark-requires c κs =
+    mark-ready _ _ _ (c .before .before .before .before .pre .0) (c .before .place-of .result)
+    (rw (c .before .place-of .ensures) (c .before .before .before .before .pre .1 (c .before .before .if1 .taken)))
 
 same-length : tie.Need-same-length
 same-length c = search needs
