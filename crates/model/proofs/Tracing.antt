@@ -11,12 +11,12 @@ use borrow.Author.Tests.{eqb-true, eqb-false, eq-eqb, ne-eqb, not-true}
 use Rattle.loops.proofs.Tests.{both-true}
 use Rattle.kinds.specs.Names.{mostPartitions}
 use Rattle.model.specs.Image.{Image, Key, flag, state, field, get, put, placeOf, partOf, a-field}
-use Rattle.model.specs.Spread.{pass, spread, Reach}
+use Rattle.model.specs.Spread.{pass, spread, Reach, step}
 use Rattle.model.specs.Acts.{marked, mark, refers, target, own, foreign, inside, outside, traceOne}
 use Rattle.model.specs.Chains.{Names}
 use Rattle.model.proofs.Keys.{Fits, same, get-put-apart}
 use Rattle.model.proofs.Places.{Shape, parts, part-of, slot-in, slot-of}
-use Rattle.model.proofs.Spreading.{Spreads, reach-along, pass-keeps, spread-keeps, pass-adds, closed, complete, least}
+use Rattle.model.proofs.Spreading.{Spreads, reach-along, pass-keeps, spread-keeps, pass-adds, complete, least}
 use Rattle.model.proofs.Moves.{Linked, Phase, up-linked, newMark-state, newMark-flag, up-newMark, mark-keeps, phase-mark, phase-finish}
 
 module _ (P S : ℕ) (shape : Shape P S) where
@@ -155,22 +155,18 @@ module _ (P S : ℕ) (shape : Shape P S) where
 
     inside-closed : (x : Image) → Linked P S x → (i k : ℕ) → k < 4 → partOf S i ≡ p → marked (inside S p x) i ≡ true → get x (field i k) ≢ 0 → partOf S (target S x i k) ≡ p
         → marked (inside S p x) (target S x i k) ≡ true
-    unfolding inside
-    inside-closed x w i k m q a ne near =
-        let s = slot-of P S (shape .some-slot) i p q in
-        let edge : refers S (own S p) x i k ≡ true = refers-so (own S p) x i k ne (eq-eqb _ _ near) in
-        rw (s .2) at
-        (closed marked (mark S) _ (target S) (λ s. p * S + s) S 4 (Linked P S) Used (spreads (own S p)) (λ i j l m q. omega arith) within x (s .0) k w (s .1) m (rw (s .2) a) (rw (s .2) edge))
+    unfolding Own
+    inside-closed x w i k m q a ne near = inside-all x w _ (step (inside-least x w i a) (k, m, q, near, record { some = ne; target = refl }))
 
     -- Then exactly those objects of other partitions are marked that were, or that a marked object of p refers to
     pub record Foreign (x : Image) (t : ℕ) : Type 0 where
       pub holder : ℕ
       pub k : ℕ
       pub small : k < 4
-      pub inside : partOf S holder ≡ p
-      pub marked : get x (state holder) ≡ 2
+      pub near : partOf S holder ≡ p
+      pub two : get x (state holder) ≡ 2
       pub names : Names S x (field holder k) t
-      pub outside : partOf S t ≢ p
+      pub far : partOf S t ≢ p
 
     record Outside (x z : Image) : Type 0 where
       more : MoreMarks x z
@@ -189,7 +185,7 @@ module _ (P S : ℕ) (shape : Shape P S) where
         record {
           more = more-mark x z t u (g .more);
           same = λ j r. mark-read z t (state j) u tt (ne-eqb t j (λ d. far (rw d r))) refl ∙ g .same j r;
-          only = λ j r. pick z t j u (record { holder = i; k = k; small = m; inside = q; marked = sym (g .same i q) ∙ a; names = n; outside = far }) (g .only j) r (ℕ-discrete t j);
+          only = λ j r. pick z t j u (record { holder = i; k = k; small = m; near = q; two = sym (g .same i q) ∙ a; names = n; far = far }) (g .only j) r (ℕ-discrete t j);
         })
         x (record { more = more-none x w; same = λ j r. refl; only = λ t r. inl r })
       where
@@ -208,9 +204,9 @@ module _ (P S : ℕ) (shape : Shape P S) where
     unfolding outside
     outside-all x w t f =
         let i = f .holder in
-        let s = slot-of P S (shape .some-slot) i p (f .inside) in
-        let here : marked x (p * S + s .0) ≡ true = rw (s .2, f .marked) in
-        let far : foreign S p (target S x i (f .k)) ≡ true = rw (f .names .target, ne-eqb (partOf S t) p (f .outside)) in
+        let s = slot-of P S (shape .some-slot) i p (f .near) in
+        let here : marked x (p * S + s .0) ≡ true = rw (s .2, f .two) in
+        let far : foreign S p (target S x i (f .k)) ≡ true = rw (f .names .target, ne-eqb (partOf S t) p (f .far)) in
         let edge : refers S (foreign S p) x (p * S + s .0) (f .k) ≡ true = rw (s .2) (refers-so (foreign S p) x i (f .k) (f .names .some) far) in
         eqb-true _ _
         (rw (s .2, f .names .target) at
@@ -231,7 +227,7 @@ module _ (P S : ℕ) (shape : Shape P S) where
             let f = more-field _ _ g i k m in
             o .stay _ (eqb-true _ _ (rw f (inside-closed x w i k m q (eq-eqb _ _ here) (λ n. some (f ∙ n)) (rw f at near))))
         go g o here some (no far) =
-            outside-all (inside S p x) (g .linked) _ (record { holder = i; k = k; small = m; inside = q; marked = here; names = record { some = some; target = refl }; outside = far })
+            outside-all (inside S p x) (g .linked) _ (record { holder = i; k = k; small = m; near = q; two = here; names = record { some = some; target = refl }; far = far })
 
     -- a phase goes on: p's flag is 0 until the end
     Going : Image → Type 0
