@@ -58,6 +58,7 @@ pub record Demand-3-calls (P S : ℕ) (history : List Act) (x : Image) (acts : L
   pub keeps : (log : List ℕ) (at : ℕ) → (calling y close-call log at) .number ≡ 0 → (j : ℕ) → Leads S y j → Stays y ((calling y close-call log at) .image) j
   pub frees : (log : List ℕ) (at : ℕ) → (calling y close-call log at) .number ≡ 0 → (j : ℕ) → j < P * S → (ChainTo S history x acts j → ⊥)
       → get ((calling y close-call log at) .image) (state j) ≡ 0
+  pub sound-after : (log : List ℕ) (at : ℕ) → (calling y close-call log at) .number ≡ 0 → isSound ((calling y close-call log at) .image) ≡ true
 
 -- 15 and 16 come on no heap that acts lead to
 module _ (y : Image) where
@@ -71,10 +72,9 @@ module _ (y : Image) where
   call-never P S h never c log at =
       let a : Act = actOf c in
       let f : Beside 15 (judge P S y a) = beside-is 15 _ (λ e. never a e .0) in
-      let s : Beside 16 (judge P S y a) = beside-is 16 _ (λ e. never a e .1) in
-      (
+      let s : Beside 16 (judge P S y a) = beside-is 16 _ (λ e. never a e .1) in (
         number-not 15 (λ z. omega arith) (λ z. omega arith) (call-beside 15 y c (λ z. omega arith) (λ z. omega arith) (rw (h .partitions-are, h .slots-are) f)) (call-ways y c log at),
-        number-not 16 (λ z. omega arith) (λ z. omega arith) (call-beside 16 y c (λ z. omega arith) (λ z. omega arith) (rw (h .partitions-are, h .slots-are) s)) (call-ways y c log at)
+        number-not 16 (λ z. omega arith) (λ z. omega arith) (call-beside 16 y c (λ z. omega arith) (λ z. omega arith) (rw (h .partitions-are, h .slots-are) s)) (call-ways y c log at),
       )
 
 -- and so on no heap that calls reached from a formatting or a recovery
@@ -170,6 +170,7 @@ module _ (P S : ℕ) (good : inLimits P S ≡ true) (history : List Act) (x : Im
           never = call-never y P S headed (promised .never);
           keeps = λ log at z j l. let c = closed-call log at z in rw (c .1) (promised .keeps (c .0) j l);
           frees = λ log at z j l n. let c = closed-call log at z in rw (c .1) (promised .frees (c .0) j l n);
+          sound-after = λ log at z. let c = closed-call log at z in rw (c .1) (promised .sound-after (c .0));
         }
 
 -- DEMAND 3, on every heap that calls reached from a formatting or a recovery

@@ -2,7 +2,8 @@
 -- formatted, or zeros, or the replay of the kept history since the last formatting or recovery, each act of it accepted where it stands.
 -- Assumes nothing.
 use Prim.Native.Nat.{ℕ}
-use mathlib.Core.Path.{_≡_, refl, sym, _∙_, subst}
+use mathlib.Core.Path.{_≡_, refl, sym, ap, _∙_, subst}
+use lib.ListN.{length, replicate, length-replicate}
 use mathlib.Core.Bool.{true}
 use mathlib.Core.List.{List, [], _∷_}
 use mathlib.Core.Logic.{_⊎_, inl, inr, ⊎-elim}
@@ -15,7 +16,7 @@ use Rattle.model.specs.History.{Run, still, acted}
 use Rattle.model.specs.Judge.{judge}
 use Rattle.model.specs.Sound.{isSound}
 use Rattle.model.proofs.Soundness.{sound-true}
-use Rattle.model.proofs.SoundnessActs.{run-kept, zeros-unsound}
+use Rattle.model.proofs.SoundnessActs.{run-kept, reached-passes, zeros-unsound}
 use Rattle.writer.specs.Record.{headingOf}
 use Rattle.journal.specs.Log.{logOf, replay}
 use Rattle.journal.proofs.Any.{any-bytes}
@@ -49,7 +50,7 @@ module _ (w : Image) (acts : List Act) (x : Image) (c : Call) (log : List ℕ) (
       j = call-leaves _ _ x c log at headed z
 
   emptied-called : Emptied acts x → ⊥
-  emptied-called e = clash (subst (λ (y : Image). isSound y ≡ true) (e .zeros) (call-sound x c log at z)) (zeros-unsound (e .words))
+  emptied-called e = clash (subst (λ (y : Image). isSound y ≡ true) (e .zeros) (call-sound x c log at z)) (zeros-unsound (lengthOf x))
 
   replayed-called : (bytes : List ℕ) → Worded c → Replayed bytes acts x → Replayed bytes (actOf c ∷ acts) ((calling x c log at) .image)
   replayed-called bytes wd r =
@@ -87,6 +88,10 @@ stands-formatted x P S log at z =
       replay-is = m .image-is;
     }
 
+zeros-all : (n : ℕ) (x : Image) → x ≡ replicate n 0 → x ≡ replicate (lengthOf x) 0
+unfolding lengthOf
+zeros-all n x e = e ∙ ap (λ (m : ℕ). replicate m 0) (sym (ap length e ∙ length-replicate n 0))
+
 -- REACHED
 pub reached : {w : Image} {o : Origin} {acts : List Act} {x : Image} → World w o acts x → Stands w o acts x
 reached lent = record { run = still; start = inl refl }
@@ -107,4 +112,8 @@ reached (recovered {x = x} l log b e) =
       run = k .run;
       replay-is = replayed (k .run);
     }
-reached (unrecovered {x = x} l log ne) = record { words = lengthOf x; zeros = refused-recovery log (lengthOf x) ne .0; none-since = refl }
+reached (unrecovered {x = x} l log ne) = record { zeros = zeros-all (lengthOf x) _ (refused-recovery log (lengthOf x) ne .0); none-since = refl }
+
+-- and a heap that calls reached from a formatting or a recovery is sound: no call on it is refused with 1
+pub reached-sound : {w : Image} {bytes : List ℕ} {acts : List Act} {x : Image} → World w (logged bytes) acts x → isSound x ≡ true
+reached-sound world = let r = reached world in reached-passes (r .P) (r .S) (r .range) (r .run)

@@ -1,4 +1,4 @@
--- Demand 2: a book is kept of calls since a formatting, each record logged where the last one ends.
+-- Demand 2: a book is kept of the calls since a formatting, each record logged where the last one ends.
 use Prim.Native.Nat.{ℕ, _+_, _≤_}
 use mathlib.Core.Bool.{true, cond}
 use mathlib.Core.List.{List, [], _∷_}
@@ -46,6 +46,10 @@ pub data Book (P S : ℕ) : Page → List Page → List ℕ → Type 0 where
   refused : {now : Page} {earlier : List Page} {log : List ℕ} → Book P S now earlier log
       → (c : Call) (at : ℕ) → (calling (now .image) c log at) .number ≢ 0
       → Book P S (page ((calling (now .image) c log at) .image) (now .end)) earlier ((calling (now .image) c log at) .log)
+  -- a refused formatting, likewise
+  unformatted : {now : Page} {earlier : List Page} {log : List ℕ} → Book P S now earlier log
+      → (P′ S′ at : ℕ) → (formatting (now .image) P′ S′ log at) .number ≢ 0
+      → Book P S (page ((formatting (now .image) P′ S′ log at) .image) (now .end)) earlier ((formatting (now .image) P′ S′ log at) .log)
   -- the records moved to another log buffer, or the log cut where the last record ends
   moved : {now : Page} {earlier : List Page} {log : List ℕ} → Book P S now earlier log
       → (other : List ℕ) → take (now .end) other ≡ take (now .end) log → Book P S now earlier other

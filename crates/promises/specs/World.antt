@@ -1,4 +1,4 @@
--- Reached: whatever calls are made from any words w, in whatever order, with any arguments, log buffers and places.
+-- Reached: whatever calls are made from any words, in whatever order, with any arguments, log buffers and places each time.
 use Prim.Native.Nat.{ℕ}
 use mathlib.Core.Bool.{true}
 use mathlib.Core.List.{List, [], _∷_, _++_}
@@ -26,7 +26,7 @@ pub data Origin : Type 0 where
   -- an accepted formatting or recovery was the last: the heading written, or the bytes kept
   logged : List ℕ → Origin
 
--- where the image comes from, the acts accepted since, the last first, and the image
+-- From the lent words w: where the image comes from, the acts accepted since, the last first, and the image. (Read and ask leave it as found.)
 pub data World (w : Image) : Origin → List Act → Image → Type 0 where
   lent : World w as-lent [] w
   formatted : {o : Origin} {acts : List Act} {x : Image} → World w o acts x
@@ -37,7 +37,7 @@ pub data World (w : Image) : Origin → List Act → Image → Type 0 where
       → (c : Call) → Worded c → (log : List ℕ) (at : ℕ) → (calling x c log at) .number ≡ 0 → World w o (actOf c ∷ acts) ((calling x c log at) .image)
   refused : {o : Origin} {acts : List Act} {x : Image} → World w o acts x
       → (c : Call) (log : List ℕ) (at : ℕ) → (calling x c log at) .number ≢ 0 → World w o acts ((calling x c log at) .image)
-  -- any bytes at all, recovered into the lent words
+  -- any bytes at all, recovered into the lent words (in code a log's numbers always are bytes)
   recovered : {o : Origin} {acts : List Act} {x : Image} → World w o acts x
       → (log : List ℕ) → Bytes log → (recoverOf log (lengthOf x)) .verdict ≡ Accepted
       → World w (logged (take ((recoverOf log (lengthOf x)) .kept) log)) [] ((recoverOf log (lengthOf x)) .image)
@@ -51,8 +51,7 @@ pub record Lent (w : Image) (acts : List Act) (x : Image) : Type 0 where
 
 -- zeros, and nothing accepted since
 pub record Emptied (acts : List Act) (x : Image) : Type 0 where
-  pub words : ℕ
-  pub zeros : x ≡ replicate words 0
+  pub zeros : x ≡ replicate (lengthOf x) 0
   pub none-since : acts ≡ []
 
 -- the replay of the kept history: the acts that the bytes say, and those accepted since, each accepted where it stands
@@ -66,6 +65,7 @@ pub record Replayed (bytes : List ℕ) (acts : List Act) (x : Image) : Type 0 wh
   pub run : Run P S (blank P S) (acts ++ earlier) x
   pub replay-is : x ≡ replay P S (acts ++ earlier)
 
+-- what is promised of each
 abbrev pub Stands : Image → Origin → List Act → Image → Type 0
 Stands w as-lent acts x = Lent w acts x
 Stands w emptied acts x = Emptied acts x
