@@ -154,7 +154,12 @@ fn put(img: &mut [u32], i: usize, w: u32) {
 
 // 1 of every call, on zeros.
 fn unsound(img: &mut [u32], log: &mut [u8]) {
-    one(b"zeros: commit", &mut *img, Operation::New(name(0, 0), 10), &mut *log);
+    one(
+        b"zeros: commit",
+        &mut *img,
+        Operation::New(name(0, 0), 10),
+        &mut *log,
+    );
     open(b"zeros: open", &mut *img, &mut *log);
     trace(b"zeros: trace 0", &mut *img, 0, &mut *log);
     close(b"zeros: close", &mut *img, &mut *log);
@@ -175,15 +180,63 @@ fn counts(img: &mut [u32], log: &mut [u8]) {
 // 7, 8 and 9 at their positions; the image stays blank.
 fn operations(img: &mut [u32], log: &mut [u8]) {
     let new = Operation::New(name(0, 0), 10);
-    one(b"new 2 0", &mut *img, Operation::New(name(2, 0), 1), &mut *log);
-    commit(b"new 0 0, new 0 4", &mut *img, new, Operation::New(name(0, 4), 1), 2, &mut *log);
-    commit(b"new 0 0, clr 0 0 4", &mut *img, new, Operation::Set(name(0, 0), 4, Target::Nothing), 2, &mut *log);
-    commit(b"new 0 0, root 16", &mut *img, new, Operation::Root(16, object(0, 0)), 2, &mut *log);
-    one(b"set 0 0 4 1 3", &mut *img, Operation::Set(name(0, 0), 4, object(1, 3)), &mut *log);
+    one(
+        b"new 2 0",
+        &mut *img,
+        Operation::New(name(2, 0), 1),
+        &mut *log,
+    );
+    commit(
+        b"new 0 0, new 0 4",
+        &mut *img,
+        new,
+        Operation::New(name(0, 4), 1),
+        2,
+        &mut *log,
+    );
+    commit(
+        b"new 0 0, clr 0 0 4",
+        &mut *img,
+        new,
+        Operation::Set(name(0, 0), 4, Target::Nothing),
+        2,
+        &mut *log,
+    );
+    commit(
+        b"new 0 0, root 16",
+        &mut *img,
+        new,
+        Operation::Root(16, object(0, 0)),
+        2,
+        &mut *log,
+    );
+    one(
+        b"set 0 0 4 1 3",
+        &mut *img,
+        Operation::Set(name(0, 0), 4, object(1, 3)),
+        &mut *log,
+    );
     commit(b"new 0 0, new 0 0", &mut *img, new, new, 2, &mut *log);
-    one(b"val 0 0", &mut *img, Operation::Val(name(0, 0), 1), &mut *log);
-    commit(b"new 0 0, set 0 0 0 1 3", &mut *img, new, Operation::Set(name(0, 0), 0, object(1, 3)), 2, &mut *log);
-    one(b"root 0 0 1", &mut *img, Operation::Root(0, object(0, 1)), &mut *log);
+    one(
+        b"val 0 0",
+        &mut *img,
+        Operation::Val(name(0, 0), 1),
+        &mut *log,
+    );
+    commit(
+        b"new 0 0, set 0 0 0 1 3",
+        &mut *img,
+        new,
+        Operation::Set(name(0, 0), 0, object(1, 3)),
+        2,
+        &mut *log,
+    );
+    one(
+        b"root 0 0 1",
+        &mut *img,
+        Operation::Root(0, object(0, 1)),
+        &mut *log,
+    );
     read(b"read 0 0", &*img, name(0, 0));
 }
 
@@ -192,18 +245,39 @@ fn rootless(img: &mut [u32], log: &mut [u8]) {
     open(b"no root: open", &mut *img, &mut *log);
     close(b"no root: close", &mut *img, &mut *log);
     trace(b"no root: trace 99", &mut *img, 99, &mut *log);
-    one(b"new 1 3", &mut *img, Operation::New(name(1, 3), 30), &mut *log);
+    one(
+        b"new 1 3",
+        &mut *img,
+        Operation::New(name(1, 3), 30),
+        &mut *log,
+    );
     open(b"no root: open", &mut *img, &mut *log);
     read(b"read 1 3", &*img, name(1, 3));
 }
 
 // 17: one byte short, at the end and past it, the largest place; and last of all.
 fn room(img: &mut [u32], log: &mut [u8]) {
-    commit(b"new 0 0, root 0 0 0", &mut *img, Operation::New(name(0, 0), 10), Operation::Root(0, object(0, 0)), 2, &mut *log);
-    show(b"open at 396 of 400", catalogue::open(&mut *img, &mut *log, 396));
+    commit(
+        b"new 0 0, root 0 0 0",
+        &mut *img,
+        Operation::New(name(0, 0), 10),
+        Operation::Root(0, object(0, 0)),
+        2,
+        &mut *log,
+    );
+    show(
+        b"open at 396 of 400",
+        catalogue::open(&mut *img, &mut *log, 396),
+    );
     show(b"open at 400", catalogue::open(&mut *img, &mut *log, 400));
-    show(b"open at the largest place", catalogue::open(&mut *img, &mut *log, 18446744073709551615));
-    show(b"trace 0 at 400", catalogue::trace(&mut *img, Partition(0), &mut *log, 400));
+    show(
+        b"open at the largest place",
+        catalogue::open(&mut *img, &mut *log, 18446744073709551615),
+    );
+    show(
+        b"trace 0 at 400",
+        catalogue::trace(&mut *img, Partition(0), &mut *log, 400),
+    );
     show(b"open at 395", catalogue::open(&mut *img, &mut *log, 395));
     open(b"open again", &mut *img, &mut *log);
 }
@@ -215,17 +289,39 @@ fn phase(img: &mut [u32], log: &mut [u8]) {
     trace(b"trace 0", &mut *img, 0, &mut *log);
     close(b"close", &mut *img, &mut *log);
     trace(b"trace 1", &mut *img, 1, &mut *log);
-    one(b"unroot 0", &mut *img, Operation::Root(0, Target::Nothing), &mut *log);
+    one(
+        b"unroot 0",
+        &mut *img,
+        Operation::Root(0, Target::Nothing),
+        &mut *log,
+    );
     close(b"no root: close", &mut *img, &mut *log);
-    one(b"root 0 0 0", &mut *img, Operation::Root(0, object(0, 0)), &mut *log);
+    one(
+        b"root 0 0 0",
+        &mut *img,
+        Operation::Root(0, object(0, 0)),
+        &mut *log,
+    );
     show_closing(b"close at 395", catalogue::close(&mut *img, &mut *log, 395));
     close(b"close", &mut *img, &mut *log);
 }
 
 // What is read and asked: an object, one that no root leads to, one that does not exist, numbers too large.
 fn questions(img: &mut [u32], log: &mut [u8]) {
-    commit(b"new 1 3, set 0 0 2 1 3", &mut *img, Operation::New(name(1, 3), 30), Operation::Set(name(0, 0), 2, object(1, 3)), 2, &mut *log);
-    one(b"new 1 0", &mut *img, Operation::New(name(1, 0), 40), &mut *log);
+    commit(
+        b"new 1 3, set 0 0 2 1 3",
+        &mut *img,
+        Operation::New(name(1, 3), 30),
+        Operation::Set(name(0, 0), 2, object(1, 3)),
+        2,
+        &mut *log,
+    );
+    one(
+        b"new 1 0",
+        &mut *img,
+        Operation::New(name(1, 0), 40),
+        &mut *log,
+    );
     read(b"read 0 0", &*img, name(0, 0));
     ask(b"ask 1 3", &*img, name(1, 3));
     ask(b"ask 1 0", &*img, name(1, 0));
