@@ -1,0 +1,41 @@
+use borrow.Author.Needs.{needs}
+use Rattle.reporting.proofs.rows.put_refused.Statement.{statement}
+use Rattle.reporting.proofs.rows.put_refused.Tie as tie
+use Rattle.reporting.proofs.rows.put_refused.Reads as reads
+use Rattle.reporting.proofs.rows.put_refused.Lts as lts
+use Rattle.reporting.proofs.rows.put_row.Reads as put-row-reads
+
+-- src/rows.rt:99:35
+slice-aggregate-put-row : tie.Need-slice-aggregate-put-row
+slice-aggregate-put-row c = search needs
+
+-- src/rows.rt:99:9
+put-row-requires : tie.Need-put-row-requires
+put-row-requires c κs = ?
+
+-- src/rows.rt:100:27
+slice-aggregate-put-row-2 : tie.Need-slice-aggregate-put-row-2
+slice-aggregate-put-row-2 c = search needs
+
+-- src/rows.rt:100:5
+put-row-requires-2 : tie.Need-put-row-requires-2
+put-row-requires-2 c κs = ?
+
+-- src/rows.rt:95:1
+same-length : tie.Need-same-length
+same-length c = search needs
+
+-- src/rows.rt:95:1
+returns : tie.Need-returns
+returns c = ?
+
+pub put-refused-spec : {M : Type 1} → statement M
+put-refused-spec =
+    tie.close
+    (tie.spec
+    slice-aggregate-put-row
+    put-row-requires
+    slice-aggregate-put-row-2
+    put-row-requires-2
+    same-length
+    returns)

@@ -1,0 +1,30 @@
+use borrow.Author.Needs.{needs}
+use Rattle.reporting.proofs.rows.put_spaced.Statement.{statement}
+use Rattle.reporting.proofs.rows.put_spaced.Tie as tie
+use Rattle.reporting.proofs.rows.put_spaced.Reads as reads
+use Rattle.reporting.proofs.rows.put_spaced.Lts as lts
+use Rattle.writer.proofs.decimal.put_number.Reads as put-number-reads
+
+-- src/rows.rt:32:5
+slice-write-out : tie.Need-slice-write-out
+slice-write-out c = ?
+
+-- src/rows.rt:33:21
+add-put-number : tie.Need-add-put-number
+add-put-number c = search needs
+
+-- src/rows.rt:33:5
+put-number-requires : tie.Need-put-number-requires
+put-number-requires c κs = ?
+
+-- src/rows.rt:28:1
+same-length : tie.Need-same-length
+same-length c = ?
+
+-- src/rows.rt:28:1
+returns : tie.Need-returns
+returns c = ?
+
+pub put-spaced-spec : {M : Type 1} → statement M
+put-spaced-spec =
+    tie.close (tie.spec slice-write-out add-put-number put-number-requires same-length returns)
