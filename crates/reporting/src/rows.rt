@@ -5,7 +5,7 @@ ghost use Prim.Native.Nat.{_+_, _*_, _<_, _≤_, _^_};
 ghost use lib.ListN.{length};
 ghost use Rattle.lines.specs.Print.{Put};
 ghost use Rattle.model.specs.Image.{addr, state, payload};
-ghost use Rattle.reporting.specs.Report.{room, toolongWord, objectWord, spaced, row, objectAt, objects, refusedText, keptText};
+ghost use Rattle.reporting.specs.Report.{room, toolongWord, objectWord, spaced, ending, row, objectAt, objects, refusedText, keptText};
 use image::FRONT;
 use image::PHASE;
 use image::STRIDE;
@@ -33,15 +33,23 @@ fn put_spaced(out: &mut [u8], at: usize, n: u32) -> usize
     put_number(out, at + 1, n)
 }
 
-// A word, a number, the line end.
+// A line's last number and the line end.
+fn put_last(out: &mut [u8], at: usize, n: u32) -> usize
+    requires { ⌜ at + length (ending (n ∷ [])) ≤ length (now out) ⌝ }
+    ensures { λ r. ⌜ Put (now (out .entry)) (now (out .exit)) at (ending (n ∷ [])) r ⌝ }
+{
+    let next = put_spaced(out, at, n);
+    out[next] = 10;
+    next + 1
+}
+
+// A line of one number.
 fn put_row(out: &mut [u8], at: usize, word: &[u8], n: u32) -> usize
     requires { ⌜ at + length (row (now word) (n ∷ [])) ≤ length (now out) ⌝ }
     ensures { λ r. ⌜ Put (now (out .entry)) (now (out .exit)) at (row (now (word .entry)) (n ∷ [])) r ⌝ }
 {
-    let a = put_text(&mut *out, at, word);
-    let b = put_spaced(&mut *out, a, n);
-    out[b] = 10;
-    b + 1
+    let next = put_text(&mut *out, at, word);
+    put_last(&mut *out, next, n)
 }
 
 // The line of an object.
@@ -52,9 +60,7 @@ fn put_object(out: &mut [u8], at: usize, p: u32, s: u32, v: u32) -> usize
     let a = put_text(&mut *out, at, b"object");
     let b = put_spaced(&mut *out, a, p);
     let c = put_spaced(&mut *out, b, s);
-    let d = put_spaced(&mut *out, c, v);
-    out[d] = 10;
-    d + 1
+    put_last(&mut *out, c, v)
 }
 
 // What is said of place j: the line of its object, or nothing where the slot is free.

@@ -1,46 +1,59 @@
+use Rattle.reporting.specs.Report.{objectWord, spaced, ending, row}
+use Rattle.writer.proofs.Puts.{put-then, room-first, room-then}
+use mathlib.Core.List.{[], _∷_}
 use borrow.Author.Needs.{needs}
 use Rattle.reporting.proofs.rows.put_object.Statement.{statement}
 use Rattle.reporting.proofs.rows.put_object.Tie as tie
 use Rattle.reporting.proofs.rows.put_object.Reads as reads
 use Rattle.reporting.proofs.rows.put_object.Lts as lts
+use Rattle.reporting.proofs.rows.put_last.Reads as put-last-reads
 use Rattle.reporting.proofs.rows.put_spaced.Reads as put-spaced-reads
 use Rattle.reporting.proofs.rows.put_text.Reads as put-text-reads
 
--- src/rows.rt:52:37
+-- src/rows.rt:60:37
 slice-aggregate-put-text : tie.Need-slice-aggregate-put-text
 slice-aggregate-put-text c = search needs
 
--- src/rows.rt:52:9
+-- src/rows.rt:60:9
 put-text-requires : tie.Need-put-text-requires
-put-text-requires c κs = ?
+unfolding row
+put-text-requires c κs = let a = c .before .before .before .args in room-first objectWord (ending (a .p ∷ a .s ∷ a .v ∷ [])) _ _ (c .before .before .before .pre)
 
--- src/rows.rt:53:9
+-- src/rows.rt:61:9
 put-spaced-requires : tie.Need-put-spaced-requires
-put-spaced-requires c κs = ?
+unfolding row
+put-spaced-requires c κs =
+    let a = c .before .before .before .before .before .before .before .args in
+    room-first (spaced (a .p)) (ending (a .s ∷ a .v ∷ [])) _ _ (room-then (c .before .before .before .put-text .ensures) (ending (a .p ∷ a .s ∷ a .v ∷ [])) (c .before .before .before .before .before .before .before .pre))
 
--- src/rows.rt:54:9
+-- src/rows.rt:62:9
 put-spaced-requires-2 : tie.Need-put-spaced-requires-2
-put-spaced-requires-2 c κs = ?
+unfolding row
+put-spaced-requires-2 c κs =
+    let a = c .before .before .before .before .before .before .before .before .before .before .before .args in
+    room-first (spaced (a .s)) (ending (a .v ∷ [])) _ _
+    (room-then (c .before .before .before .put-spaced .ensures) (ending (a .s ∷ a .v ∷ []))
+    (room-then (c .before .before .before .before .before .before .before .put-text .ensures) (ending (a .p ∷ a .s ∷ a .v ∷ [])) (c .before .before .before .before .before .before .before .before .before .before .before .pre)))
 
--- src/rows.rt:55:9
-put-spaced-requires-3 : tie.Need-put-spaced-requires-3
-put-spaced-requires-3 c κs = ?
+-- src/rows.rt:63:5
+put-last-requires : tie.Need-put-last-requires
+unfolding row
+put-last-requires c κs =
+    let a = c .before .before .before .before .before .before .before .before .before .before .before .before .before .before .before .args in
+    room-then (c .before .before .before .put-spaced2 .ensures) (ending (a .v ∷ []))
+    (room-then (c .before .before .before .before .before .before .before .put-spaced .ensures) (ending (a .s ∷ a .v ∷ []))
+    (room-then (c .before .before .before .before .before .before .before .before .before .before .before .put-text .ensures) (ending (a .p ∷ a .s ∷ a .v ∷ [])) (c .before .before .before .before .before .before .before .before .before .before .before .before .before .before .before .pre)))
 
--- src/rows.rt:56:5
-slice-write-out : tie.Need-slice-write-out
-slice-write-out c = ?
-
--- src/rows.rt:57:5
-add-result : tie.Need-add-result
-add-result c = ?
-
--- src/rows.rt:48:1
+-- src/rows.rt:56:1
 same-length : tie.Need-same-length
-same-length c = ?
+same-length c = search needs
 
--- src/rows.rt:48:1
+-- src/rows.rt:56:1
 returns : tie.Need-returns
-returns c = ?
+unfolding row
+returns c =
+    put-then (c .before .before .before .before .before .before .before .before .before .before .before .before .before .before .put-text .ensures)
+    (put-then (c .before .before .before .before .before .before .before .before .before .before .put-spaced .ensures) (put-then (c .before .before .before .before .before .before .put-spaced2 .ensures) (c .before .before .put-last .ensures)))
 
 pub put-object-spec : {M : Type 1} → statement M
 put-object-spec =
@@ -50,8 +63,6 @@ put-object-spec =
     put-text-requires
     put-spaced-requires
     put-spaced-requires-2
-    put-spaced-requires-3
-    slice-write-out
-    add-result
+    put-last-requires
     same-length
     returns)

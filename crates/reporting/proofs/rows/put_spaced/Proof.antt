@@ -1,3 +1,8 @@
+use Rattle.reporting.specs.Report.{spaced}
+use Rattle.writer.proofs.Puts.{put-byte, put-then}
+use lib.ListN.{length-set}
+use mathlib.Core.Path.{_∙_}
+use native.Mathlib.Omega.{arith}
 use borrow.Author.Needs.{needs}
 use Rattle.reporting.proofs.rows.put_spaced.Statement.{statement}
 use Rattle.reporting.proofs.rows.put_spaced.Tie as tie
@@ -7,7 +12,8 @@ use Rattle.writer.proofs.decimal.put_number.Reads as put-number-reads
 
 -- src/rows.rt:32:5
 slice-write-out : tie.Need-slice-write-out
-slice-write-out c = ?
+unfolding spaced
+slice-write-out c = omega arith
 
 -- src/rows.rt:33:21
 add-put-number : tie.Need-add-put-number
@@ -15,15 +21,17 @@ add-put-number c = search needs
 
 -- src/rows.rt:33:5
 put-number-requires : tie.Need-put-number-requires
-put-number-requires c κs = ?
+unfolding spaced
+put-number-requires c κs = simp length-set (omega arith)
 
 -- src/rows.rt:28:1
 same-length : tie.Need-same-length
-same-length c = ?
+same-length c = c .before .before .put-number .kept .0 ∙ simp length-set
 
 -- src/rows.rt:28:1
 returns : tie.Need-returns
-returns c = ?
+unfolding spaced
+returns c = put-then (put-byte _ _ 32) (c .before .before .put-number .ensures)
 
 pub put-spaced-spec : {M : Type 1} → statement M
 put-spaced-spec =

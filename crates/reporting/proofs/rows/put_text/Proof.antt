@@ -1,3 +1,11 @@
+use Rattle.reporting.proofs.Texts.{put-letter, put-word}
+use mathlib.Core.Path.{_≡_}
+use Rattle.writer.proofs.Puts.{put-none, put-length}
+use Rattle.lines.specs.Print.{Put}
+use lib.Seq.{take-all}
+use lib.ListN.{length, take}
+use Prim.Native.Nat.{_+_, _-_, _≤_}
+use native.Mathlib.Omega.{arith}
 use borrow.Author.Needs.{needs}
 use Rattle.reporting.proofs.rows.put_text.Statement.{statement}
 use Rattle.reporting.proofs.rows.put_text.Tie as tie
@@ -5,10 +13,10 @@ use Rattle.reporting.proofs.rows.put_text.Reads as reads
 use Rattle.reporting.proofs.rows.put_text.Lts as lts
 
 abbrev Inv-loop : tie.InvT-loop
-Inv-loop out₀ at word i₀ out i = ?
+Inv-loop out₀ at word i₀ out i = (i ≤ length word) × Put out₀ out at (take i word) (at + i)
 
 abbrev μ-loop : tie.MeasureT-loop
-μ-loop out₀ at word i₀ out i = ?
+μ-loop out₀ at word i₀ out i = length word - i
 
 -- src/rows.rt:20:5
 loop-holds : tie.Need-loop-holds Inv-loop μ-loop
@@ -24,7 +32,7 @@ add-out c = search needs
 
 -- src/rows.rt:21:9
 slice-write-out : tie.Need-slice-write-out Inv-loop μ-loop
-slice-write-out c = search needs
+slice-write-out c = omega (arith, put-length (c .before .before .loop .inv .1))
 
 -- src/rows.rt:22:9
 add-i : tie.Need-add-i Inv-loop μ-loop
@@ -36,7 +44,7 @@ loop-less c = search needs
 
 -- src/rows.rt:20:5
 loop-again : tie.Need-loop-again Inv-loop μ-loop
-loop-again c = search needs
+loop-again c = (search needs, put-letter _ _ _ _ _ (c .before .loop-test .taken) (c .before .before .loop .inv .1))
 
 -- src/rows.rt:24:5
 add-result : tie.Need-add-result Inv-loop μ-loop
@@ -44,11 +52,11 @@ add-result c = search needs
 
 -- src/rows.rt:15:1
 same-length : tie.Need-same-length Inv-loop μ-loop
-same-length c = search needs
+same-length c = put-length (c .before .loop .inv .1)
 
 -- src/rows.rt:15:1
 returns : tie.Need-returns Inv-loop μ-loop
-returns c = search needs
+returns c = put-word _ _ _ _ _ (c .loop-test .left) (c .before .loop .inv .1)
 
 pub put-text-spec : {M : Type 1} → statement M
 put-text-spec =

@@ -1,3 +1,4 @@
+use Rattle.reporting.specs.Report.{row}
 use borrow.Author.Needs.{needs}
 use Rattle.reporting.proofs.rows.put_toolong.Statement.{statement}
 use Rattle.reporting.proofs.rows.put_toolong.Tie as tie
@@ -19,7 +20,8 @@ same-length c = search needs
 
 -- src/rows.rt:87:1
 returns : tie.Need-returns
-returns c = ?
+unfolding row
+returns c = c .before .before .put-text .ensures
 
 pub put-toolong-spec : {M : Type 1} → statement M
 put-toolong-spec =

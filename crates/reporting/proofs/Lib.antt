@@ -1,0 +1,3 @@
+pub mod Headings
+pub mod Texts
+pub mod Recoveries
