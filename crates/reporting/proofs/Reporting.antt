@@ -1,0 +1,56 @@
+-- No report is longer than the room that it is lent; and the ends of the call, each from what the code has there.
+-- Assumes nothing.
+use Prim.Native.Nat.{ℕ, _+_, _*_, _≤_, _<_}
+use native.Mathlib.Omega.{arith}
+use native.Mathlib.Nat.{zero-add}
+use mathlib.Core.Path.{_≡_, refl, sym, ap, _∙_}
+use mathlib.Core.Bool.{Bool, true, false, cond}
+use mathlib.Core.List.{List, [], _∷_, _++_}
+use lib.Dec.{ltb, leb}
+use lib.ListN.{length, length-append}
+use borrow.Author.Tests.{lt-ltb, le-ltb, le-leb, lt-leb}
+use Rattle.kinds.specs.declared.Verdict.{Verdict}
+use Rattle.kinds.specs.declared.Verdict.the-variants.{Accepted, Refused}
+use Rattle.model.specs.Image.{Image, phase, get}
+use Rattle.journal.specs.Recover.{Recovered, recoverOf}
+use Rattle.reporting.specs.Report.{mostBytes, room, answerWord, lineWord, keptWord, phaseWord, toolongWord, row, objects, refusedText, keptText, told, shown, askedOf, lent, recoveredText, reportOf, reported}
+use Rattle.reporting.proofs.Headings.{asked-bounded}
+use Rattle.reporting.proofs.Texts.{row-length, objects-length, places-most}
+
+refused-length : (n k : ℕ) → length (refusedText n k) ≤ room
+unfolding refusedText
+refused-length n k =
+    omega (arith, row-length answerWord n, row-length lineWord k, length-append (row answerWord (n ∷ [])) (row lineWord (k ∷ [])))
+
+kept-length : (P S k : ℕ) (y : Image) → P ≤ 16 → S ≤ 64 → length (keptText P S k y) ≤ room
+unfolding keptText
+kept-length P S k y hp hs =
+    let m = places-most P S hp hs in
+    let a = row answerWord (0 ∷ []) in
+    let b = row keptWord (k ∷ []) in
+    let c = row phaseWord (get y phase ∷ []) in
+    let d = objects S y (P * S) in
+    omega (arith, m .1, objects-length S (P * S) y hs (m .0), row-length answerWord 0, row-length keptWord k, row-length phaseWord (get y phase), length-append a (b ++ (c ++ d)), length-append b (c ++ d), length-append c d)
+
+shown-length : (P S : ℕ) (r : Recovered) → P ≤ 16 → S ≤ 64 → length (shown P S r) ≤ room
+unfolding shown
+shown-length P S r hp hs = by (r .verdict)
+  where
+    by : (v : Verdict) → length (told P S v (r .kept) (r .image)) ≤ room
+    by Accepted = kept-length P S (r .kept) (r .image) hp hs
+    by (Refused q) = refused-length (q .number) (q .extra)
+
+recovered-length : (log : List ℕ) → length (recoveredText log) ≤ room
+unfolding recoveredText
+recovered-length log =
+    let a = asked-bounded log in
+    shown-length (askedOf log .partitions) (askedOf log .slots) (recoverOf log (lent log)) (a .few) (a .narrow)
+
+-- NO REPORT has more than 32,768 bytes
+pub report-length : (log : List ℕ) → length (reportOf log) ≤ room
+unfolding reportOf row
+report-length log = by (ltb mostBytes (length log))
+  where
+    by : (b : Bool) → length (cond b (row toolongWord []) (recoveredText log)) ≤ room
+    by true = omega arith
+    by false = recovered-length log
