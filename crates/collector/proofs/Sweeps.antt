@@ -1,60 +1,27 @@
--- Laws of sweeps: each step keeps an image within its bounds, and what passes, sweeps and turns come to.
+-- A pass is a sweep over the fields of a partition, the halves of a trace are passes, and every step and every act keeps an image within its bounds.
 -- Assumes nothing.
-use Prim.Native.Nat.{ℕ, zero, suc, _+_, _*_, _-_, _/_, _%_, _≤_, _<_}
-use mathlib.Core.Path.{_≡_, refl, sym, ap, _∙_, subst}
+use Prim.Native.Nat.{ℕ, _+_, _*_, _-_, _/_, _%_, _≤_, _<_}
+use mathlib.Core.Path.{_≡_, refl, sym, _∙_, subst}
 use mathlib.Core.Bool.{Bool, true, false, not, cond}
-use mathlib.Core.Logic.{_≢_}
-use native.Mathlib.Numerals.{add-one}
 use native.Mathlib.Nat.{lt-of-lt-of-le}
 use native.Mathlib.Omega.{arith}
-use lib.Arith.{digits-lt, digits-div, digits-mod}
+use lib.Arith.{digits-lt}
 use lib.Dec.{eqb}
-use borrow.Author.Tests.{eqb-true, eqb-false, eq-eqb, ne-eqb, not-true}
+use borrow.Author.Tests.{eqb-false, not-true}
 use Rattle.loops.specs.Loop.{both, each, again}
 use Rattle.loops.proofs.Tests.{both-true}
 use Rattle.loops.proofs.Loops.{each-keeps, again-keeps, tally-le}
 use Rattle.kinds.specs.Names.{mostPartitions, fields}
-use Rattle.model.specs.Image.{Image, Key, head, root, flag, state, payload, field, count, get, put, placeOf, partOf, release, Holder, a-root, a-field}
+use Rattle.model.specs.Image.{Image, head, root, flag, state, payload, field, phase, count, allowance, anchors, get, put, placeOf, partOf, release, a-root, a-field}
 use Rattle.model.specs.Spread.{follow, pass, spread}
-use Rattle.model.specs.Acts.{marked, mark, markWord, refers, target, own, foreign, clear, settle, inside, outside, unmarked}
+use Rattle.model.specs.Acts.{marked, mark, refers, target, clear, settle, unclean, markRoots, allow, openUp, inside, outside, finish, traceOne, shut, closeUp, unmarked}
 use Rattle.model.proofs.Keys.{get-put-apart}
 use Rattle.image.specs.Within.{Within}
-use Rattle.image.proofs.Within.{Leads, part-in, within-put, within-release, within-mark, within-markWord}
+use Rattle.image.proofs.Within.{part-in, within-put, within-release, within-mark, within-markWord}
+use Rattle.collector.proofs.Walks.{each-flat}
 use Rattle.collector.specs.declared.Sweep.{Sweep}
 use Rattle.collector.specs.declared.Sweep.the-variants.{Flags, Roots, Slots, Fields}
 use Rattle.collector.specs.Sweeps.{wanted, passOver, followAt, stepOf, Reaches}
-
-module _ {X : Type 0} where
-  -- a sweep goes on where another ended
-  pub each-add : (f : X → ℕ → X) (a b : ℕ) (x : X) → each (a + b) f x ≡ each b (λ y k. f y (a + k)) (each a f x)
-  unfolding each
-  each-add f a zero x = let e : a + 0 ≡ a = omega arith in rw e
-  each-add f a (suc b) x = let e : a + suc b ≡ suc (a + b) = omega arith in rw (e, each-add f a b x)
-
-  pub each-same : (f g : X → ℕ → X) (n : ℕ) (x : X) → ((y : X) (i : ℕ) → i < n → f y i ≡ g y i) → each n f x ≡ each n g x
-  unfolding each
-  each-same f g zero x h = refl
-  each-same f g (suc n) x h = rw (each-same f g n x (λ y i l. h y i (omega arith))) (h (each n g x) n (omega arith))
-
-  -- K steps at each of n numbers are one sweep over n * K
-  pub each-flat : (K : ℕ) (f : X → ℕ → ℕ → X) (n : ℕ) (x : X) → each n (λ y j. each K (λ z k. f z j k) y) x ≡ each (n * K) (λ z i. f z (i / K) (i % K)) x
-  unfolding each
-  each-flat K f zero x = let e : 0 * K ≡ 0 = omega arith in rw e
-  each-flat K f (suc n) x =
-      let e : suc n * K ≡ n * K + K = omega arith in
-      rw (e, each-add (λ z i. f z (i / K) (i % K)) (n * K) K x, each-flat K f n x)
-      (each-same (λ z k. f z n k) (λ z k. f z ((n * K + k) / K) ((n * K + k) % K)) K (each (n * K) (λ z i. f z (i / K) (i % K)) x)
-      (λ y k l. sym (ap (λ (j : ℕ). f y j ((n * K + k) % K)) (digits-div n l) ∙ ap (f y n) (digits-mod n l))))
-
-module _ {X : Type 0} (f : X → X) where
-  -- the whole is the rest from turn n
-  pub again-on : (s n : ℕ) (x : X) → n < s → again (s - n) f x ≡ again (s - (n + 1)) f (f x)
-  unfolding again
-  again-on s n x l = let e : s - n ≡ suc (s - (n + 1)) = omega arith in rw e
-
-  pub again-end : (s n : ℕ) (x : X) → s ≤ n → again (s - n) f x ≡ x
-  unfolding again
-  again-end s n x l = let e : s - n ≡ 0 = omega arith in rw e
 
 -- slot i / 4 of partition t is one of the places
 pub slot-in : (P S t i : ℕ) → t < P → i < S * fields → t * S + i / fields < P * S
@@ -83,8 +50,10 @@ module _ (P S t : ℕ) (within : Bool) (x : Image) (i : ℕ) (h : Within P S x) 
     where
       j : ℕ
       j = t * S + i / fields
+
       k : ℕ
       k = i % fields
+
       go : (b : Bool) → both (marked x j) (refers S (wanted S t within) x j k) ≡ b → Q (cond b (mark S x (target S x j k)) x)
       go true e =
           let a = both-true (marked x j) (refers S (wanted S t within) x j k) e in
@@ -149,6 +118,37 @@ module _ (P S a t : ℕ) (x : Image) (l : a < 5) (m : t < P) where
 
 pub within-pass : (P S t : ℕ) (within : Bool) (x : Image) → Within P S x → t < P → Within P S (passOver S t within x)
 within-pass P S t within x h m = kept-pass P S 0 t x (omega arith) m within x record { bounds = h; word = refl } .bounds
+
+-- every act leaves references that lead to places
+module _ (P S : ℕ) (x : Image) (h : Within P S x) where
+  pub within-open : Within P S (openUp P S x)
+  unfolding openUp allow markRoots unclean stepOf
+  within-open =
+      within-put P S _
+      (within-put P S _
+      (within-swept P S Roots anchors _ _ (within-swept P S Flags mostPartitions _ _ (within-put P S x h phase 1 (omega arith)) (λ i l. l) refl) (λ i l. l) refl)
+      count 0 (omega arith))
+      allowance _ (omega arith)
+
+  pub within-trace : (t : ℕ) → t < P → Within P S (traceOne S t x)
+  unfolding traceOne finish
+  within-trace t m =
+      within-put P S _
+      (within-put P S _
+      (rw (outside-is S t (inside S t x)) (within-pass P S t false (inside S t x) (kept-inside P S 0 t x (omega arith) m h .bounds) m))
+      (flag t) 1 (lt-of-lt-of-le m (h .small)))
+      count _ (omega arith)
+
+  pub within-close : Within P S (closeUp P S x)
+  unfolding closeUp shut unclean stepOf
+  within-close =
+      within-put P S _
+      (within-put P S _
+      (within-put P S _
+      (within-swept P S Flags mostPartitions _ _ (within-swept P S Slots (P * S) x _ h (λ i l. l) refl) (λ i l. l) refl)
+      phase 0 (omega arith))
+      count 0 (omega arith))
+      allowance 0 (omega arith)
 
 pub unmarked-le : (n : ℕ) (x : Image) → unmarked n x ≤ n
 unfolding unmarked

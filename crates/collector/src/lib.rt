@@ -84,7 +84,12 @@ fn meets(img: &[u32], p: usize, s: usize, t: Sought, i: usize) -> bool
             if img[image::FRONT + image::STRIDE * j] != 2 {
                 return false;
             }
-            astray(img, p, s, img[image::FRONT + image::STRIDE * j + 2 + i % FIELDS])
+            astray(
+                img,
+                p,
+                s,
+                img[image::FRONT + image::STRIDE * j + 2 + i % FIELDS],
+            )
         }
     }
 }

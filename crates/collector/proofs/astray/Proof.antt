@@ -1,23 +1,18 @@
+-- `collector::astray` meets its contract. Assumes nothing.
 use Prim.Native.Nat.{_+_, _*_, _<_}
 use lib.ListN.{length}
 use Rattle.collector.specs.Searches.{astray}
-use Rattle.model.specs.Image.{get, addr, state, placeOf}
+use Rattle.model.specs.Image.{get, addr, placeOf}
 use native.Mathlib.Omega.{arith}
-use mathlib.Core.Path.{_≡_, refl, sym, ap, _∙_}
 use borrow.Author.Tests.{eq-eqb, ne-eqb}
 use borrow.Author.Needs.{needs}
 use Rattle.collector.proofs.astray.Statement.{statement}
 use Rattle.collector.proofs.astray.Tie as tie
-use Rattle.collector.proofs.astray.Reads as reads
-use Rattle.collector.proofs.astray.Lts as lts
-use Rattle.image.proofs.place_of.Reads as place-of-reads
 
--- src/lib.rt:53:9
 returns : tie.Need-returns
 unfolding astray
 returns c = rw (eq-eqb _ _ (c .if1 .taken))
 
--- src/lib.rt:55:9
 place-of-requires : tie.Need-place-of-requires
 place-of-requires c κs = search needs
 
@@ -25,31 +20,25 @@ place-of-requires c κs = search needs
 place-in : (c : tie.After-place-of) → 37 + 6 * c .place-of .result < length (c .before .before .before .args .img .now)
 place-in c =
     let l : placeOf (c .before .before .before .args .s) (c .before .before .before .args .w) < c .before .before .before .args .p * c .before .before .before .args .s =
-      c .before .before .before .pre .1 (c .before .if1 .left) in
+    c .before .before .before .pre .1 (c .before .if1 .left) in
     omega arith
 
--- src/lib.rt:56:27
 mul-if2 : tie.Need-mul-if2
 mul-if2 c = omega (arith, place-in c)
 
--- src/lib.rt:56:12
 add-if2 : tie.Need-add-if2
 add-if2 c = omega (arith, place-in c)
 
--- src/lib.rt:56:8
 mul-if2-2 : tie.Need-mul-if2-2
 mul-if2-2 c = omega (arith, place-in c)
 
--- src/lib.rt:56:8
 shared-slice-read-if2 : tie.Need-shared-slice-read-if2
 shared-slice-read-if2 c = omega (arith, place-in (c .before))
 
--- src/lib.rt:57:9
 returns-2 : tie.Need-returns-2
 unfolding astray get addr
 returns-2 c = rw (ne-eqb _ _ (c .before .before .before .if1 .left), ← (c .before .before .place-of .ensures), eq-eqb _ _ (c .if2 .taken))
 
--- src/lib.rt:47:1
 returns-3 : tie.Need-returns-3
 unfolding astray get addr
 returns-3 c = rw (ne-eqb _ _ (c .before .before .before .if1 .left), ← (c .before .before .place-of .ensures), ne-eqb _ _ (c .if2 .left))

@@ -1,17 +1,15 @@
+-- `collector::clear` meets its contract. Assumes nothing.
 use Rattle.model.specs.Acts.{clear}
 use Rattle.model.specs.Image.{put, addr, field, release}
 use Rattle.loops.proofs.Turns.{each-none, each-more, each-done}
 use Rattle.loops.specs.Loop.{each}
 use lib.ListN.{length, length-set}
 use native.Mathlib.Omega.{arith}
-use mathlib.Core.Path.{_≡_, refl, sym, ap, _∙_}
-use Prim.Native.Nat.{ℕ, _≤_, _<_, _-_, _+_, _*_}
+use mathlib.Core.Path.{_≡_, refl, _∙_}
+use Prim.Native.Nat.{_≤_, _-_}
 use borrow.Author.Needs.{needs}
 use Rattle.collector.proofs.clear.Statement.{statement}
 use Rattle.collector.proofs.clear.Tie as tie
-use Rattle.collector.proofs.clear.Reads as reads
-use Rattle.collector.proofs.clear.Lts as lts
-use Rattle.image.proofs.release_field.Reads as release-field-reads
 
 abbrev Inv-loop : tie.InvT-loop
 Inv-loop img₀ s j k₀ img k = (k ≤ 4) × (img ≡ each k (λ x i. release s x (field j i)) img₀) × (length img ≡ length img₀)
@@ -19,75 +17,60 @@ Inv-loop img₀ s j k₀ img k = (k ≤ 4) × (img ≡ each k (λ x i. release s
 abbrev μ-loop : tie.MeasureT-loop
 μ-loop img₀ s j k₀ img k = 4 - k
 
--- src/lib.rt:219:24
 mul-img : tie.Need-mul-img Inv-loop μ-loop
 mul-img c = search needs
 
--- src/lib.rt:219:9
 add-img : tie.Need-add-img Inv-loop μ-loop
 add-img c = search needs
 
--- src/lib.rt:219:5
 mul-img-2 : tie.Need-mul-img-2 Inv-loop μ-loop
 mul-img-2 c = search needs
 
--- src/lib.rt:219:5
 slice-write-img : tie.Need-slice-write-img Inv-loop μ-loop
 slice-write-img c = search needs
 
--- src/lib.rt:220:24
 mul-img-3 : tie.Need-mul-img-3 Inv-loop μ-loop
 mul-img-3 c = search needs
 
--- src/lib.rt:220:9
 add-img-2 : tie.Need-add-img-2 Inv-loop μ-loop
 add-img-2 c = search needs
 
--- src/lib.rt:220:9
 add-img-3 : tie.Need-add-img-3 Inv-loop μ-loop
 add-img-3 c = search needs
 
--- src/lib.rt:220:5
 mul-img-4 : tie.Need-mul-img-4 Inv-loop μ-loop
 mul-img-4 c = search needs
 
--- src/lib.rt:220:5
 slice-write-img-2 : tie.Need-slice-write-img-2 Inv-loop μ-loop
 slice-write-img-2 c = simp length-set (omega arith)
 
--- src/lib.rt:222:5
 loop-holds : tie.Need-loop-holds Inv-loop μ-loop
 loop-holds c = (search needs, each-none _ _, refl)
 
--- src/lib.rt:223:9
 release-field-requires : tie.Need-release-field-requires Inv-loop μ-loop
 unfolding addr
 release-field-requires c κs =
     let e : length (c .before .before .loop .img) ≡ length (c .before .before .before .before .args .img .now) = simp length-set at (c .before .before .loop .inv .2) in
     omega arith
 
--- src/lib.rt:224:9
 add-k : tie.Need-add-k Inv-loop μ-loop
 add-k c = search needs
 
--- src/lib.rt:222:5
 loop-less : tie.Need-loop-less Inv-loop μ-loop
 loop-less c = search needs
 
--- src/lib.rt:222:5
 loop-again : tie.Need-loop-again Inv-loop μ-loop
 loop-again c =
     let l = c .before .before .before .before .before .loop in
-    let a = c .before .before .before .before .before .before .before .args in
-    (search needs,
-    c .before .before .release-field .ensures ∙ each-more (λ x i. release (a .s) x (field (a .j) i)) _ (l .k) (l .img) (l .inv .1),
-    c .before .before .release-field .kept .0 ∙ l .inv .2)
+    let a = c .before .before .before .before .before .before .before .args in (
+      search needs,
+      c .before .before .release-field .ensures ∙ each-more (λ x i. release (a .s) x (field (a .j) i)) _ (l .k) (l .img) (l .inv .1),
+      c .before .before .release-field .kept .0 ∙ l .inv .2,
+    )
 
--- src/lib.rt:215:1
 same-length : tie.Need-same-length Inv-loop μ-loop
 same-length c = simp length-set at (c .before .loop .inv .2)
 
--- src/lib.rt:215:1
 returns : tie.Need-returns Inv-loop μ-loop
 unfolding clear put addr
 returns c =

@@ -1,16 +1,14 @@
-use Rattle.collector.proofs.Searches.{first-here, first-on, first-end}
+-- `collector::first` meets its contract. Assumes nothing.
+use Rattle.collector.proofs.Walks.{first-here, first-on, first-end}
 use Rattle.collector.specs.Searches.{meets}
 use Rattle.loops.specs.Loop.{first}
 use native.Mathlib.Nat.{lt-of-lt-of-le}
 use native.Mathlib.Omega.{arith}
-use mathlib.Core.Path.{_≡_, refl, sym, ap, _∙_}
-use Prim.Native.Nat.{ℕ, _≤_, _<_, _-_, _+_, _*_}
+use mathlib.Core.Path.{_≡_, sym, ap, _∙_}
+use Prim.Native.Nat.{ℕ, _≤_, _-_}
 use borrow.Author.Needs.{needs}
 use Rattle.collector.proofs.first.Statement.{statement}
 use Rattle.collector.proofs.first.Tie as tie
-use Rattle.collector.proofs.first.Reads as reads
-use Rattle.collector.proofs.first.Lts as lts
-use Rattle.collector.proofs.meets.Reads as meets-reads
 
 abbrev Inv-loop : tie.InvT-loop
 Inv-loop img p s t n i₀ i = (i ≤ n) × (first n 0 (meets s img t) ≡ first (n - i) i (meets s img t))
@@ -18,33 +16,26 @@ Inv-loop img p s t n i₀ i = (i ≤ n) × (first n 0 (meets s img t) ≡ first 
 abbrev μ-loop : tie.MeasureT-loop
 μ-loop img p s t n i₀ i = n - i
 
--- src/lib.rt:98:5
 loop-holds : tie.Need-loop-holds Inv-loop μ-loop
 loop-holds c =
     let z : c .before .args .n ≡ c .before .args .n - 0 = omega arith in
     (search needs, ap (λ (m : ℕ). first m 0 (meets (c .before .args .s) (c .before .args .img .now) (c .before .args .t))) z)
 
--- src/lib.rt:99:13
 meets-requires : tie.Need-meets-requires Inv-loop μ-loop
 meets-requires c κs = (c .before .before .before .pre .0, lt-of-lt-of-le (c .loop-test .taken) (c .before .before .before .pre .1))
 
--- src/lib.rt:101:13
 returns : tie.Need-returns Inv-loop μ-loop
 returns c = sym (c .before .before .before .loop .inv .1 ∙ first-here _ _ _ (c .before .before .loop-test .taken) (sym (c .before .meets .ensures) ∙ c .if1 .taken))
 
--- src/lib.rt:103:9
 add-i : tie.Need-add-i Inv-loop μ-loop
 add-i c = search needs
 
--- src/lib.rt:98:5
 loop-less : tie.Need-loop-less Inv-loop μ-loop
 loop-less c = search needs
 
--- src/lib.rt:98:5
 loop-again : tie.Need-loop-again Inv-loop μ-loop
 loop-again c = (search needs, c .before .before .before .loop .inv .1 ∙ first-on _ _ _ (c .before .before .loop-test .taken) (sym (c .before .meets .ensures) ∙ c .if1 .left))
 
--- src/lib.rt:92:1
 returns-2 : tie.Need-returns-2 Inv-loop μ-loop
 returns-2 c =
     let e : c .before .loop .i ≡ c .before .before .before .args .n = omega arith in

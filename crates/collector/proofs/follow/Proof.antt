@@ -1,25 +1,19 @@
-use mathlib.Core.Bool.{Bool, true, false, true≢false}
+-- `collector::follow` meets its contract. Assumes nothing.
+use mathlib.Core.Bool.{true, false, true≢false}
 use Rattle.collector.proofs.Sweeps.{slot-in}
 use Rattle.collector.specs.Sweeps.{wanted, followAt}
 use Rattle.model.specs.Acts.{mark}
 use Rattle.model.specs.Spread.{follow}
 use Rattle.model.specs.Image.{get, addr, field, placeOf, a-field}
-use Rattle.image.proofs.Within.{product, part-in}
-use lib.ListN.{length, getD}
-use native.Mathlib.Nat.{lt-of-lt-of-le}
+use Rattle.image.proofs.Within.{product, mark-ready}
+use lib.ListN.{getD}
 use native.Mathlib.Omega.{arith}
-use mathlib.Core.Bool.{Bool, true, false}
 use mathlib.Core.Path.{_≡_, refl, sym, ap, _∙_}
-use Prim.Native.Nat.{ℕ, _≤_, _<_, _-_, _+_, _*_, _/_, _%_}
+use Prim.Native.Nat.{ℕ, _<_, _-_, _+_, _*_, _/_, _%_}
 use borrow.Author.Tests.{eq-eqb, ne-eqb, not-true, not-false}
 use borrow.Author.Needs.{needs}
 use Rattle.collector.proofs.follow.Statement.{statement}
 use Rattle.collector.proofs.follow.Tie as tie
-use Rattle.collector.proofs.follow.Reads as reads
-use Rattle.collector.proofs.follow.Lts as lts
-use Rattle.collector.proofs.is_wanted.Reads as is-wanted-reads
-use Rattle.image.proofs.mark.Reads as mark-reads
-use Rattle.image.proofs.place_of.Reads as place-of-reads
 
 -- the slot and its field's target are places of the image
 place-in : (c : tie.After-struct-known) → c .before .before .args .t .0 * c .before .before .args .s + c .before .before .args .i / 4 < c .before .before .args .p * c .before .before .args .s
@@ -42,120 +36,115 @@ wants c =
     let a = c .before .before .before .before .before .before .before .before .args in
     ap (wanted (a .s) (a .t .0) (a .within)) (sym (c .before .place-of .ensures)) ∙ sym (c .is-wanted .ensures)
 
--- src/lib.rt:266:13
 cast-q : tie.Need-cast-q
 cast-q c = search needs
 
--- src/lib.rt:267:13
 mul-j : tie.Need-mul-j
 mul-j c = omega (arith, product 16 (c .before .before .args .t .0) (c .before .before .args .s) (omega arith) (omega arith))
 
--- src/lib.rt:267:13
 add-j : tie.Need-add-j
 add-j c = omega (arith, place-in c)
 
--- src/lib.rt:268:27
 mul-if1 : tie.Need-mul-if1
 mul-if1 c = omega (arith, place-in c)
 
--- src/lib.rt:268:12
 add-if1 : tie.Need-add-if1
 add-if1 c = omega (arith, place-in c)
 
--- src/lib.rt:268:8
 mul-if1-2 : tie.Need-mul-if1-2
 mul-if1-2 c = omega (arith, place-in c)
 
--- src/lib.rt:268:8
 slice-read-if1 : tie.Need-slice-read-if1
 slice-read-if1 c = omega (arith, place-in (c .before))
 
--- src/lib.rt:269:9
 returns : tie.Need-returns
 unfolding followAt follow get addr
 returns c = (rw (ne-eqb _ _ (c .if1 .taken)), λ _. refl)
 
--- src/lib.rt:271:32
 mul-w : tie.Need-mul-w
 mul-w c = omega (arith, place-in (c .before .before))
 
--- src/lib.rt:271:17
 add-w : tie.Need-add-w
 add-w c = omega (arith, place-in (c .before .before))
 
--- src/lib.rt:271:17
 add-w-2 : tie.Need-add-w-2
 add-w-2 c = omega (arith, place-in (c .before .before))
 
--- src/lib.rt:271:17
 add-w-3 : tie.Need-add-w-3
 add-w-3 c = omega (arith, place-in (c .before .before))
 
--- src/lib.rt:271:13
 mul-w-2 : tie.Need-mul-w-2
 mul-w-2 c = omega (arith, place-in (c .before .before))
 
--- src/lib.rt:271:13
 slice-read-w : tie.Need-slice-read-w
 slice-read-w c = omega (arith, place-in (c .before .before .before))
 
--- src/lib.rt:273:9
 returns-2 : tie.Need-returns-2
 unfolding followAt follow get addr
 returns-2 c = (rw (eq-eqb _ _ (c .before .before .if1 .left), eq-eqb _ _ (c .if2 .taken)), λ _. refl)
 
--- src/lib.rt:275:9
 place-of-requires : tie.Need-place-of-requires
 place-of-requires c κs = search needs
 
--- src/lib.rt:276:9
 is-wanted-requires : tie.Need-is-wanted-requires
 is-wanted-requires c κs = search needs
 
--- src/lib.rt:278:9
 returns-3 : tie.Need-returns-3
 unfolding followAt follow get addr word
-returns-3 c =
-    (rw (eq-eqb _ _ (c .before .before .before .before .before .if1 .left), ne-eqb _ _ (c .before .before .before .if2 .left), wants (c .before), not-true (c .before .is-wanted .result) (c .if3 .taken)), λ _. refl)
+returns-3 c = (
+  rw (
+    eq-eqb _ _ (c .before .before .before .before .before .if1 .left),
+    ne-eqb _ _ (c .before .before .before .if2 .left),
+    wants (c .before),
+    not-true (c .before .is-wanted .result) (c .if3 .taken),
+  ),
+  λ _. refl,
+)
 
--- src/lib.rt:280:27
 mul-if4 : tie.Need-mul-if4
 mul-if4 c = omega (arith, target-in (c .before .before))
 
--- src/lib.rt:280:12
 add-if4 : tie.Need-add-if4
 add-if4 c = omega (arith, target-in (c .before .before))
 
--- src/lib.rt:280:8
 mul-if4-2 : tie.Need-mul-if4-2
 mul-if4-2 c = omega (arith, target-in (c .before .before))
 
--- src/lib.rt:280:8
 slice-read-if4 : tie.Need-slice-read-if4
 slice-read-if4 c = omega (arith, target-in (c .before .before .before))
 
--- src/lib.rt:281:9
 returns-4 : tie.Need-returns-4
 unfolding followAt follow mark get addr word
-returns-4 c =
-    (rw (eq-eqb _ _ (c .before .before .before .before .before .before .before .if1 .left), ne-eqb _ _ (c .before .before .before .before .before .if2 .left), wants (c .before .before .before), not-false (c .before .before .before .is-wanted .result) (c .before .before .if3 .left), ← (c .before .before .before .before .place-of .ensures), ne-eqb _ _ (c .if4 .taken)), λ _. refl)
+returns-4 c = (
+  rw (
+    eq-eqb _ _ (c .before .before .before .before .before .before .before .if1 .left),
+    ne-eqb _ _ (c .before .before .before .before .before .if2 .left),
+    wants (c .before .before .before),
+    not-false (c .before .before .before .is-wanted .result) (c .before .before .if3 .left),
+    ← (c .before .before .before .before .place-of .ensures),
+    ne-eqb _ _ (c .if4 .taken),
+  ),
+  λ _. refl,
+)
 
--- src/lib.rt:283:5
 mark-requires : tie.Need-mark-requires
-unfolding addr
-mark-requires c κs =
-    let w = c .before .before .before .before .before .before .before .before .before .before .before .before .pre .0 in
-    (w .some-slot, lt-of-lt-of-le (part-in _ _ _ (w .some-slot) (target-in (c .before .before .before .before .before))) (w .small), omega (arith, target-in (c .before .before .before .before .before)))
+mark-requires c κs = mark-ready _ _ _ (c .before .before .before .before .before .before .before .before .before .before .before .before .pre .0) _ (target-in (c .before .before .before .before .before))
 
--- src/lib.rt:261:1
 same-length : tie.Need-same-length
 same-length c = search needs
 
--- src/lib.rt:261:1
 returns-5 : tie.Need-returns-5
 unfolding followAt follow get addr word
-returns-5 c =
-    (rw (eq-eqb _ _ (c .before .before .before .before .before .before .before .before .before .before .before .if1 .left), ne-eqb _ _ (c .before .before .before .before .before .before .before .before .before .if2 .left), wants (c .before .before .before .before .before .before .before), not-false (c .before .before .before .before .before .before .before .is-wanted .result) (c .before .before .before .before .before .before .if3 .left), ← (c .before .before .before .before .before .before .before .before .place-of .ensures)) (c .before .before .mark .ensures), λ e. absurd (true≢false e))
+returns-5 c = (
+  rw (
+    eq-eqb _ _ (c .before .before .before .before .before .before .before .before .before .before .before .if1 .left),
+    ne-eqb _ _ (c .before .before .before .before .before .before .before .before .before .if2 .left),
+    wants (c .before .before .before .before .before .before .before),
+    not-false (c .before .before .before .before .before .before .before .is-wanted .result) (c .before .before .before .before .before .before .if3 .left),
+    ← (c .before .before .before .before .before .before .before .before .place-of .ensures),
+  ) (c .before .before .mark .ensures),
+  λ e. absurd (true≢false e),
+)
 
 pub follow-spec : {M : Type 1} → statement M
 follow-spec =

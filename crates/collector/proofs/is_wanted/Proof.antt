@@ -1,36 +1,28 @@
+-- `collector::is_wanted` meets its contract. Assumes nothing.
 use Rattle.model.specs.Image.{partOf}
-use mathlib.Core.Path.{_≡_, refl, sym, ap, _∙_}
 use borrow.Author.Tests.{eq-eqb, ne-eqb}
 use borrow.Author.Needs.{needs}
 use Rattle.collector.proofs.is_wanted.Statement.{statement}
 use Rattle.collector.proofs.is_wanted.Tie as tie
-use Rattle.collector.proofs.is_wanted.Reads as reads
-use Rattle.collector.proofs.is_wanted.Lts as lts
 
--- src/lib.rt:247:12
 div-if2 : tie.Need-div-if2
 div-if2 c = search needs
 
--- src/lib.rt:248:13
 returns : tie.Need-returns
 unfolding partOf
 returns c = rw (c .before .if1 .taken, eq-eqb _ _ (c .if2 .taken))
 
--- src/lib.rt:250:9
 returns-2 : tie.Need-returns-2
 unfolding partOf
 returns-2 c = rw (c .before .if1 .taken, ne-eqb _ _ (c .if2 .left))
 
--- src/lib.rt:252:8
 div-if3 : tie.Need-div-if3
 div-if3 c = search needs
 
--- src/lib.rt:253:9
 returns-3 : tie.Need-returns-3
 unfolding partOf
 returns-3 c = rw (c .before .if1 .left, eq-eqb _ _ (c .if3 .taken))
 
--- src/lib.rt:242:1
 returns-4 : tie.Need-returns-4
 unfolding partOf
 returns-4 c = rw (c .before .if1 .left, ne-eqb _ _ (c .if3 .left))

@@ -1,37 +1,28 @@
+-- `collector::led` meets its contract. Assumes nothing.
 use Rattle.collector.proofs.Searches.{led-root, led-field, led-so}
-use mathlib.Core.Path.{_≡_, sym}
+use mathlib.Core.Path.{sym}
 use borrow.Author.Needs.{needs}
 use Rattle.collector.proofs.led.Statement.{statement}
 use Rattle.collector.proofs.led.Tie as tie
-use Rattle.collector.proofs.led.Reads as reads
-use Rattle.collector.proofs.led.Lts as lts
-use Rattle.collector.proofs.first.Reads as first-reads
 
--- src/lib.rt:127:9
 first-requires : tie.Need-first-requires
 first-requires c κs = search needs
 
--- src/lib.rt:129:9
 returns : tie.Need-returns
 returns c = sym (led-root _ _ _ (rw (c .before .first .ensures) at (c .if1 .taken)))
 
--- src/lib.rt:131:13
 mul-n : tie.Need-mul-n
 mul-n c = search needs
 
--- src/lib.rt:131:13
 mul-n-2 : tie.Need-mul-n-2
 mul-n-2 c = search needs
 
--- src/lib.rt:132:9
 first-requires-2 : tie.Need-first-requires-2
 first-requires-2 c κs = search needs
 
--- src/lib.rt:134:9
 returns-2 : tie.Need-returns-2
 returns-2 c = sym (led-field _ _ _ (rw (c .before .first2 .ensures) at (c .if2 .taken)))
 
--- src/lib.rt:123:1
 returns-3 : tie.Need-returns-3
 returns-3 c = sym (led-so _ _ _ (rw (c .before .before .before .first .ensures) at (c .before .before .if1 .left)) (rw (c .before .first2 .ensures) at (c .if2 .left)))
 

@@ -1,32 +1,26 @@
+-- `collector::open` meets its contract. Assumes nothing.
 use Rattle.collector.proofs.Sweeps.{within-swept, unmarked-le}
 use Rattle.collector.specs.Sweeps.{stepOf}
 use Rattle.collector.specs.declared.Sweep.the-variants.{Flags, Roots}
 use Rattle.model.specs.Acts.{unclean, markRoots, allow, openUp}
-use Rattle.model.specs.Image.{Image, put, addr, phase}
+use Rattle.model.specs.Image.{put, addr, phase}
 use Rattle.image.proofs.Within.{within-put, product}
 use Rattle.loops.specs.Loop.{each}
-use lib.ListN.{length-set, set, length}
+use lib.ListN.{length-set, set}
 use native.Mathlib.Omega.{arith}
-use mathlib.Core.Path.{_≡_, sym, ap, _∙_}
+use mathlib.Core.Path.{sym, ap, _∙_}
 use Prim.Native.Nat.{ℕ, _+_, _*_, _≤_}
 use Rattle.image.specs.Within.{Within}
 use borrow.Author.Needs.{needs}
 use Rattle.collector.proofs.open.Statement.{statement}
 use Rattle.collector.proofs.open.Tie as tie
-use Rattle.collector.proofs.open.Reads as reads
-use Rattle.collector.proofs.open.Lts as lts
-use Rattle.collector.proofs.each.Reads as each-reads
-use Rattle.collector.proofs.unmarked.Reads as unmarked-reads
 
--- src/lib.rt:358:5
 slice-write-img : tie.Need-slice-write-img
 slice-write-img c = search needs
 
--- src/lib.rt:359:35
 cast-each : tie.Need-cast-each
 cast-each c = search needs
 
--- src/lib.rt:359:5
 each-requires : tie.Need-each-requires
 unfolding put addr
 each-requires c κs = (within-put _ _ _ (c .before .before .pre) phase 1 (omega arith), λ i l. l)
@@ -40,19 +34,15 @@ cleared c =
 rooted : (c : tie.After-each2) → Within (c .before .before .before .before .before .before .before .args .p) (c .before .before .before .before .before .before .before .args .s) (c .each2 .last .0)
 rooted c = within-swept _ _ Roots 16 _ _ (cleared (c .before .before .before .before)) (λ i l. l) (c .each2 .ensures .0)
 
--- src/lib.rt:360:5
 each-requires-2 : tie.Need-each-requires-2
 each-requires-2 c κs = (cleared (c .before .before .before), λ i l. l)
 
--- src/lib.rt:361:27
 mul-unmarked : tie.Need-mul-unmarked
 mul-unmarked c = search needs
 
--- src/lib.rt:361:9
 unmarked-requires : tie.Need-unmarked-requires
 unmarked-requires c κs = omega (arith, rooted (c .before .before .before) .long)
 
--- src/lib.rt:362:5
 slice-write-img-2 : tie.Need-slice-write-img-2
 slice-write-img-2 c = omega (arith, rooted (c .before .before .before .before) .long)
 
@@ -62,25 +52,20 @@ few c =
     let a = c .before .before .before .before .before .before .before .before .before .before .before .args in
     omega (arith, c .unmarked .ensures, unmarked-le (a .p * a .s) (c .before .before .before .before .each2 .last .0), product 16 (a .p) (a .s) (c .before .before .before .before .before .before .before .before .before .before .before .pre .small) (c .before .before .before .before .before .before .before .before .before .before .before .pre .wide))
 
--- src/lib.rt:363:30
 add-img : tie.Need-add-img
 add-img c = omega (arith, few c)
 
--- src/lib.rt:363:29
 cast-img : tie.Need-cast-img
 cast-img c = omega (arith, few c)
 
--- src/lib.rt:363:5
 slice-write-img-3 : tie.Need-slice-write-img-3
 slice-write-img-3 c = simp length-set (omega (arith, rooted (c .before .before .before .before) .long))
 
--- src/lib.rt:354:1
 same-length : tie.Need-same-length
 same-length c =
     let y = c .before .before .before .before .each2 .last .0 in
     length-set (set y 3 0) 4 _ ∙ length-set y 3 0 ∙ rooted (c .before .before .before .before) .long ∙ sym (c .before .before .before .before .before .before .before .before .before .before .before .pre .long)
 
--- src/lib.rt:354:1
 returns : tie.Need-returns
 unfolding openUp allow markRoots unclean stepOf put addr
 returns c =

@@ -1,26 +1,20 @@
+-- `collector::pass` meets its contract. Assumes nothing.
 use Rattle.collector.specs.Sweeps.{stepOf}
 use Rattle.collector.proofs.Sweeps.{pass-flat}
-use mathlib.Core.Path.{_≡_, sym, _∙_}
+use mathlib.Core.Path.{sym, _∙_}
 use borrow.Author.Needs.{needs}
 use Rattle.collector.proofs.pass.Statement.{statement}
 use Rattle.collector.proofs.pass.Tie as tie
-use Rattle.collector.proofs.pass.Reads as reads
-use Rattle.collector.proofs.pass.Lts as lts
-use Rattle.collector.proofs.each.Reads as each-reads
 
--- src/lib.rt:334:47
 mul-each : tie.Need-mul-each
 mul-each c = search needs
 
--- src/lib.rt:334:5
 each-requires : tie.Need-each-requires
 each-requires c κs = search needs
 
--- src/lib.rt:329:1
 same-length : tie.Need-same-length
 same-length c = search needs
 
--- src/lib.rt:329:1
 returns : tie.Need-returns
 unfolding stepOf
 returns c = (c .before .before .each .ensures .0 ∙ sym (pass-flat _ _ _ _), c .before .before .each .ensures .1)

@@ -1,69 +1,52 @@
+-- `collector::settle` meets its contract. Assumes nothing.
 use Rattle.model.specs.Acts.{settle}
 use Rattle.model.specs.Image.{get, put, addr}
-use mathlib.Core.Path.{_≡_, refl, sym, ap, _∙_}
 use borrow.Author.Tests.{eq-eqb, ne-eqb}
 use borrow.Author.Needs.{needs}
 use Rattle.collector.proofs.settle.Statement.{statement}
 use Rattle.collector.proofs.settle.Tie as tie
-use Rattle.collector.proofs.settle.Reads as reads
-use Rattle.collector.proofs.settle.Lts as lts
-use Rattle.collector.proofs.clear.Reads as clear-reads
 
--- src/lib.rt:233:32
 mul-x : tie.Need-mul-x
 mul-x c = search needs
 
--- src/lib.rt:233:17
 add-x : tie.Need-add-x
 add-x c = search needs
 
--- src/lib.rt:233:13
 mul-x-2 : tie.Need-mul-x-2
 mul-x-2 c = search needs
 
--- src/lib.rt:233:13
 slice-read-x : tie.Need-slice-read-x
 slice-read-x c = search needs
 
--- src/lib.rt:235:9
 clear-requires : tie.Need-clear-requires
 clear-requires c κs = search needs
 
--- src/lib.rt:236:9
 same-length : tie.Need-same-length
 same-length c = search needs
 
--- src/lib.rt:236:9
 returns : tie.Need-returns
 unfolding settle get addr
 returns c = rw (eq-eqb _ _ (c .before .before .before .before .if1 .taken)) (c .before .before .clear .ensures)
 
--- src/lib.rt:239:28
 mul-img : tie.Need-mul-img
 mul-img c = search needs
 
--- src/lib.rt:239:13
 add-img : tie.Need-add-img
 add-img c = search needs
 
--- src/lib.rt:239:9
 mul-img-2 : tie.Need-mul-img-2
 mul-img-2 c = search needs
 
--- src/lib.rt:239:9
 slice-write-img : tie.Need-slice-write-img
 slice-write-img c = search needs
 
--- src/lib.rt:229:1
 same-length-2 : tie.Need-same-length-2
 same-length-2 c = search needs
 
--- src/lib.rt:229:1
 returns-2 : tie.Need-returns-2
 unfolding settle get put addr
 returns-2 c = rw (ne-eqb _ _ (c .before .if1 .left), eq-eqb _ _ (c .if2 .taken))
 
--- src/lib.rt:229:1
 returns-3 : tie.Need-returns-3
 unfolding settle get put addr
 returns-3 c = rw (ne-eqb _ _ (c .before .if1 .left), ne-eqb _ _ (c .if2 .left))

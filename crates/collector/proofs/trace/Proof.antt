@@ -1,21 +1,17 @@
+-- `collector::trace` meets its contract. Assumes nothing.
 use Rattle.collector.specs.Sweeps.{passOver}
 use Rattle.model.specs.Acts.{finish, traceOne}
-use Rattle.model.specs.Image.{Image, get, put, addr}
-use lib.ListN.{length-set, set, length}
+use Rattle.model.specs.Image.{get, put, addr}
+use lib.ListN.{length-set, set}
 use native.Mathlib.Omega.{arith}
 use mathlib.Core.Bool.{false}
-use mathlib.Core.Path.{_≡_, sym, ap, _∙_, subst}
-use Prim.Native.Nat.{ℕ, _+_, _*_, _≤_}
+use mathlib.Core.Path.{sym, ap, _∙_, subst}
+use Prim.Native.Nat.{_+_}
 use Rattle.collector.proofs.Sweeps.{Kept, kept-inside, kept-pass, outside-is}
 use borrow.Author.Needs.{needs}
 use Rattle.collector.proofs.trace.Statement.{statement}
 use Rattle.collector.proofs.trace.Tie as tie
-use Rattle.collector.proofs.trace.Reads as reads
-use Rattle.collector.proofs.trace.Lts as lts
-use Rattle.collector.proofs.inside.Reads as inside-reads
-use Rattle.collector.proofs.pass.Reads as pass-reads
 
--- src/lib.rt:372:5
 inside-requires : tie.Need-inside-requires
 inside-requires c κs = search needs
 
@@ -29,49 +25,39 @@ passed : (c : tie.After-pass) → Kept (c .before .before .before .before .befor
 passed c =
     let a = c .before .before .before .before .before .before .before .args in
     subst (Kept (a .p) (a .s) 3 (a .img .now)) (sym (c .pass .ensures .0))
-    (kept-pass (a .p) (a .s) 3 (a .t .0) (a .img .now) (omega arith) (c .before .before .before .before .before .before .before .pre .1 .0) false (c .before .before .before .before .inside .last .0) (within (c .before .before .before .before)))
+    (kept-pass (a .p) (a .s) 3 (a .t .0) (a .img .now) (omega arith) (c .before .before .before .before .before .before .before .pre .1 .0) _ (c .before .before .before .before .inside .last .0) (within (c .before .before .before .before)))
 
--- src/lib.rt:373:5
 pass-requires : tie.Need-pass-requires
 pass-requires c κs = (within (c .before .before .before) .bounds, c .before .before .before .before .before .before .pre .1 .0)
 
--- src/lib.rt:374:13
 slice-read-c : tie.Need-slice-read-c
 slice-read-c c = search needs
 
--- src/lib.rt:375:23
 cast-img : tie.Need-cast-img
 cast-img c = search needs
 
--- src/lib.rt:375:9
 add-img : tie.Need-add-img
 add-img c = search needs
 
--- src/lib.rt:375:5
 mul-img : tie.Need-mul-img
 mul-img c = search needs
 
--- src/lib.rt:375:5
 slice-write-img : tie.Need-slice-write-img
 slice-write-img c = search needs
 
--- src/lib.rt:376:25
 add-img-2 : tie.Need-add-img-2
 unfolding get addr
 add-img-2 c = omega (arith, passed (c .before .before .before .before) .word, c .before .before .before .before .before .before .before .before .before .before .before .pre .1 .1)
 
--- src/lib.rt:376:5
 slice-write-img-2 : tie.Need-slice-write-img-2
 slice-write-img-2 c = simp length-set (omega (arith, passed (c .before .before .before .before) .bounds .long))
 
--- src/lib.rt:367:1
 same-length : tie.Need-same-length
 same-length c =
     let a = c .before .before .before .before .before .before .before .before .before .before .before .args in
     let y = c .before .before .before .before .pass .last .0 in
     length-set (set y (21 + a .t .0) 1) 3 _ ∙ length-set y (21 + a .t .0) 1 ∙ passed (c .before .before .before .before) .bounds .long ∙ sym (c .before .before .before .before .before .before .before .before .before .before .before .pre .0 .long)
 
--- src/lib.rt:367:1
 returns : tie.Need-returns
 unfolding traceOne finish get put addr
 returns c =
