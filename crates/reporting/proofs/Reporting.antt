@@ -7,12 +7,16 @@ use mathlib.Core.Path.{_≡_, refl, sym, ap, _∙_}
 use mathlib.Core.Bool.{Bool, true, false, cond}
 use mathlib.Core.List.{List, [], _∷_, _++_}
 use lib.Dec.{ltb, leb}
-use lib.ListN.{length, length-append}
+use lib.ListN.{length, take, drop, length-append}
+use lib.Seq.{sets-eq}
 use borrow.Author.Tests.{lt-ltb, le-ltb, le-leb, lt-leb}
 use Rattle.kinds.specs.declared.Verdict.{Verdict}
 use Rattle.kinds.specs.declared.Verdict.the-variants.{Accepted, Refused}
 use Rattle.model.specs.Image.{Image, phase, get}
 use Rattle.journal.specs.Recover.{Recovered, recoverOf}
+use Rattle.lines.specs.Print.{Put}
+use Rattle.writer.specs.declared.Written.the-variants.{Done, Full}
+use Rattle.writer.specs.Write.{wrote, splice}
 use Rattle.reporting.specs.Report.{mostBytes, room, answerWord, lineWord, keptWord, phaseWord, toolongWord, row, objects, refusedText, keptText, told, shown, askedOf, lent, recoveredText, reportOf, reported}
 use Rattle.reporting.proofs.Headings.{asked-bounded}
 use Rattle.reporting.proofs.Texts.{row-length, objects-length, places-most}
@@ -54,3 +58,24 @@ report-length log = by (ltb mostBytes (length log))
     by : (b : Bool) → length (cond b (row toolongWord []) (recoveredText log)) ≤ room
     by true = omega arith
     by false = recovered-length log
+
+-- the report of a log that is too long, and of one that is not
+pub report-long : (log : List ℕ) → mostBytes < length log → row toolongWord [] ≡ reportOf log
+unfolding reportOf
+report-long log h = rw (lt-ltb mostBytes (length log) h)
+
+pub report-short : (log : List ℕ) → length log ≤ mostBytes → recoveredText log ≡ reportOf log
+unfolding reportOf
+report-short log h = rw (le-ltb mostBytes (length log) h)
+
+-- the two ends of the call
+pub reported-full : (log out : List ℕ) → length out < room → wrote Full out ≡ reported log out
+unfolding reported
+reported-full log out h = rw (lt-leb room (length out) h)
+
+pub reported-done : (log out after : List ℕ) (r : ℕ) → room ≤ length out → Put out after 0 (reportOf log) r → wrote (Done r) after ≡ reported log out
+unfolding reported splice
+reported-done log out after r h p =
+    let e : after ≡ take 0 out ++ (reportOf log ++ drop (0 + length (reportOf log)) out) = p .bytes ∙ sets-eq (reportOf log) out 0 (omega (arith, report-length log)) in
+    let n : r ≡ length (reportOf log) = omega (arith, p .next) in
+    rw (le-leb room (length out) h, e, n)

@@ -1,0 +1,78 @@
+use borrow.Author.Needs.{needs}
+use Rattle.reporting.proofs.put_recovered.Statement.{statement}
+use Rattle.reporting.proofs.put_recovered.Tie as tie
+use Rattle.reporting.proofs.put_recovered.Reads as reads
+use Rattle.reporting.proofs.put_recovered.Lts as lts
+use Rattle.recovery.proofs.recover.Reads as recover-reads
+use Rattle.reporting.proofs.rows.put_kept.Reads as put-kept-reads
+use Rattle.reporting.proofs.rows.put_refused.Reads as put-refused-reads
+
+-- src/lib.rt:41:11
+recover-requires : tie.Need-recover-requires
+recover-requires c κs = search needs
+
+-- src/lib.rt:42:24
+enum-known-k : tie.Need-enum-known-k
+enum-known-k c = search needs
+
+-- src/lib.rt:42:57
+cast-put-kept : tie.Need-cast-put-kept
+cast-put-kept c = ?
+
+-- src/lib.rt:42:30
+put-kept-requires : tie.Need-put-kept-requires
+put-kept-requires c κs = ?
+
+-- src/lib.rt:43:27
+enum-known-r : tie.Need-enum-known-r
+enum-known-r c = search needs
+
+-- src/lib.rt:43:60
+cast-put-refused : tie.Need-cast-put-refused
+cast-put-refused c = ?
+
+-- src/lib.rt:43:33
+put-refused-requires : tie.Need-put-refused-requires
+put-refused-requires c κs = search needs
+
+-- src/lib.rt:36:1
+same-length : tie.Need-same-length
+same-length c = search needs
+
+-- src/lib.rt:36:1
+same-length-2 : tie.Need-same-length-2
+same-length-2 c = search needs
+
+-- src/lib.rt:36:1
+returns : tie.Need-returns
+returns c = ?
+
+-- src/lib.rt:36:1
+same-length-3 : tie.Need-same-length-3
+same-length-3 c = search needs
+
+-- src/lib.rt:36:1
+same-length-4 : tie.Need-same-length-4
+same-length-4 c = search needs
+
+-- src/lib.rt:36:1
+returns-2 : tie.Need-returns-2
+returns-2 c = ?
+
+pub put-recovered-spec : {M : Type 1} → statement M
+put-recovered-spec =
+    tie.close
+    (tie.spec
+    recover-requires
+    enum-known-k
+    cast-put-kept
+    put-kept-requires
+    enum-known-r
+    cast-put-refused
+    put-refused-requires
+    same-length
+    same-length-2
+    returns
+    same-length-3
+    same-length-4
+    returns-2)
