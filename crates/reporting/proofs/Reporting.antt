@@ -3,13 +3,14 @@
 use Prim.Native.Nat.{ℕ, _+_, _*_, _≤_, _<_}
 use native.Mathlib.Omega.{arith}
 use native.Mathlib.Nat.{zero-add}
-use mathlib.Core.Path.{_≡_, refl, sym, ap, _∙_}
+use mathlib.Core.Path.{_≡_, refl, sym, ap, subst, _∙_}
 use mathlib.Core.Bool.{Bool, true, false, cond}
 use mathlib.Core.List.{List, [], _∷_, _++_}
 use lib.Dec.{ltb, leb}
 use lib.ListN.{length, take, drop, length-append}
-use lib.Seq.{sets-eq}
+use lib.Seq.{sets-eq, length-take-le}
 use borrow.Author.Tests.{lt-ltb, le-ltb, le-leb, lt-leb}
+use Rattle.kinds.specs.declared.Refusal.{Refusal}
 use Rattle.kinds.specs.declared.Verdict.{Verdict}
 use Rattle.kinds.specs.declared.Verdict.the-variants.{Accepted, Refused}
 use Rattle.model.specs.Image.{Image, phase, get}
@@ -17,8 +18,13 @@ use Rattle.journal.specs.Recover.{Recovered, recoverOf}
 use Rattle.lines.specs.Print.{Put}
 use Rattle.writer.specs.declared.Written.the-variants.{Done, Full}
 use Rattle.writer.specs.Write.{wrote, splice}
+use Rattle.recovery.specs.Out.{out}
+use Rattle.recovery.specs.declared.Recovery.{Recovery}
+use Rattle.recovery.specs.declared.Recovery.the-variants.{Kept, Refused as NotKept}
+use Rattle.reporting.specs.declared.asked.Asked.{Asked}
 use Rattle.reporting.specs.Report.{mostBytes, room, answerWord, lineWord, keptWord, phaseWord, toolongWord, row, objects, refusedText, keptText, told, shown, askedOf, lent, recoveredText, reportOf, reported}
-use Rattle.reporting.proofs.Headings.{asked-bounded}
+use Rattle.reporting.proofs.Headings.{Bounded, asked-bounded}
+use Rattle.reporting.proofs.Recoveries.{Small, recover-small}
 use Rattle.reporting.proofs.Texts.{row-length, objects-length, places-most}
 
 refused-length : (n k : ℕ) → length (refusedText n k) ≤ room
@@ -79,3 +85,44 @@ reported-done log out after r h p =
     let e : after ≡ take 0 out ++ (reportOf log ++ drop (0 + length (reportOf log)) out) = p .bytes ∙ sets-eq (reportOf log) out 0 (omega (arith, report-length log)) in
     let n : r ≡ length (reportOf log) = omega (arith, p .next) in
     rw (le-leb room (length out) h, e, n)
+
+-- what recovery's code answers: a kept length with its image, or a refusal
+module _ (log : List ℕ) (len : ℕ) (r : Recovery) (y : Image) (e : out r y ≡ recoverOf log len) where
+  answered : (s : Recovery) → r ≡ s → out s y ≡ recoverOf log len
+  answered s q = ap (λ (t : Recovery). out t y) (sym q) ∙ e
+
+  answered-small : (s : Recovery) → r ≡ s → Small len (length log) (out s y .verdict) (out s y .kept)
+  answered-small s q = subst (λ (z : Recovered). Small len (length log) (z .verdict) (z .kept)) (sym (answered s q)) (recover-small log len)
+
+  pub kept-small : (k : ℕ) → r ≡ Kept k → (37 ≤ len) × (k ≤ length log)
+  kept-small k q = answered-small (Kept k) q
+
+  pub line-small : (n : Refusal) → r ≡ NotKept n → n .extra ≤ length log + 1
+  line-small n q = answered-small (NotKept n) q
+
+  module _ (P S : ℕ) where
+    pub kept-shown : (k : ℕ) → r ≡ Kept k → keptText P S k y ≡ shown P S (recoverOf log len)
+    unfolding shown
+    kept-shown k q = ap (shown P S) (answered (Kept k) q)
+
+    pub refused-shown : (n : Refusal) → r ≡ NotKept n → refusedText (n .number) (n .extra) ≡ shown P S (recoverOf log len)
+    unfolding shown
+    refused-shown n q = ap (shown P S) (answered (NotKept n) q)
+
+-- the part of the largest image that is lent
+module _ (log : List ℕ) (a : Asked) (e : a ≡ askedOf log) (img : List ℕ) (l : length img ≡ 6181) where
+  bounds : Bounded a
+  bounds = subst Bounded (sym e) (asked-bounded log)
+
+  pub words-fit : a .words ≤ length img
+  words-fit = omega (arith, bounds .most)
+
+  pub words-lent : length (take (a .words) img) ≡ a .words
+  words-lent = length-take-le (a .words) img words-fit
+
+  pub lent-whole : (a .partitions ≤ 16) × (a .slots ≤ 64) × (0 < length (take (a .words) img) → length (take (a .words) img) ≡ 37 + 6 * (a .partitions * a .slots))
+  lent-whole = (bounds .few, bounds .narrow, λ h. words-lent ∙ bounds .whole (omega (arith, words-lent)))
+
+  pub lent-report : length log ≤ mostBytes → shown (a .partitions) (a .slots) (recoverOf log (length (take (a .words) img))) ≡ reportOf log
+  unfolding recoveredText
+  lent-report h = rw (words-lent, e) (report-short log h)

@@ -1,3 +1,4 @@
+use Rattle.reporting.proofs.Reporting.{reported-full, reported-done}
 use borrow.Author.Needs.{needs}
 use Rattle.reporting.proofs.report.Statement.{statement}
 use Rattle.reporting.proofs.report.Tie as tie
@@ -7,7 +8,7 @@ use Rattle.reporting.proofs.put_report.Reads as put-report-reads
 
 -- src/lib.rt:65:9
 returns : tie.Need-returns
-returns c = ?
+returns c = reported-full _ _ (c .if1 .taken)
 
 -- src/lib.rt:67:19
 put-report-requires : tie.Need-put-report-requires
@@ -19,7 +20,7 @@ same-length c = search needs
 
 -- src/lib.rt:61:1
 returns-2 : tie.Need-returns-2
-returns-2 c = ?
+returns-2 c = reported-done _ _ _ _ (c .before .before .before .before .if1 .left) (c .before .before .put-report .ensures)
 
 pub report-spec : {M : Type 1} → statement M
 report-spec = tie.close (tie.spec returns put-report-requires same-length returns-2)
