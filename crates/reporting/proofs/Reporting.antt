@@ -16,8 +16,9 @@ use Rattle.kinds.specs.declared.Verdict.the-variants.{Accepted, Refused}
 use Rattle.model.specs.Image.{Image, phase, get}
 use Rattle.journal.specs.Recover.{Recovered, recoverOf}
 use Rattle.lines.specs.Print.{Put}
+use Rattle.writer.specs.declared.Written.{Written}
 use Rattle.writer.specs.declared.Written.the-variants.{Done, Full}
-use Rattle.writer.specs.Write.{wrote, splice}
+use Rattle.writer.specs.Write.{Wrote, wrote, splice}
 use Rattle.recovery.specs.Out.{out}
 use Rattle.recovery.specs.declared.Recovery.{Recovery}
 use Rattle.recovery.specs.declared.Recovery.the-variants.{Kept, Refused as NotKept}
@@ -126,3 +127,21 @@ module _ (log : List ℕ) (a : Asked) (e : a ≡ askedOf log) (img : List ℕ) (
   pub lent-report : length log ≤ mostBytes → shown (a .partitions) (a .slots) (recoverOf log (length (take (a .words) img))) ≡ reportOf log
   unfolding recoveredText
   lent-report h = rw (words-lent, e) (report-short log h)
+
+-- what the call says it wrote is at most the room
+abbrev lengthOf : Written → ℕ
+lengthOf (Done k) = k
+lengthOf Full = 0
+
+reported-length : (log out : List ℕ) → lengthOf (reported log out .answer) ≤ room
+unfolding reported
+reported-length log out = by (leb room (length out))
+  where
+    by : (b : Bool) → lengthOf (cond b (wrote (Done (length (reportOf log))) (splice out 0 (reportOf log))) (wrote Full out) .answer) ≤ room
+    by true = report-length log
+    by false = omega arith
+
+pub done-fits : (log out after : List ℕ) (a : Written) (k : ℕ) → wrote a after ≡ reported log out → a ≡ Done k → k ≤ room
+done-fits log out after a k e d =
+    let h : k ≡ lengthOf (reported log out .answer) = ap lengthOf (sym d) ∙ ap (λ (w : Wrote). lengthOf (w .answer)) e in
+    omega (arith, reported-length log out)

@@ -1,53 +1,38 @@
+-- `reporting::put_report` meets its contract. Assumes nothing.
 use Rattle.reporting.proofs.Reporting.{report-long, words-fit, words-lent, lent-whole, lent-report}
 use mathlib.Core.Path.{sym}
 use native.Mathlib.Omega.{arith}
 use borrow.Author.Needs.{needs}
 use Rattle.reporting.proofs.put_report.Statement.{statement}
 use Rattle.reporting.proofs.put_report.Tie as tie
-use Rattle.reporting.proofs.put_report.Reads as reads
-use Rattle.reporting.proofs.put_report.Lts as lts
-use Rattle.reporting.proofs.asked.asked_of.Reads as asked-of-reads
-use Rattle.reporting.proofs.image.Reads as image-reads
-use Rattle.reporting.proofs.put_recovered.Reads as put-recovered-reads
-use Rattle.reporting.proofs.rows.put_toolong.Reads as put-toolong-reads
 
--- src/lib.rt:52:9
 put-toolong-requires : tie.Need-put-toolong-requires
 put-toolong-requires c κs = search needs
 
--- src/lib.rt:52:9
 same-length : tie.Need-same-length
 same-length c = search needs
 
--- src/lib.rt:52:9
 returns : tie.Need-returns
 returns c = rw (← report-long _ (c .before .before .before .before .if1 .taken)) (c .before .before .put-toolong .ensures)
 
--- src/lib.rt:54:9
 asked-of-requires : tie.Need-asked-of-requires
 asked-of-requires c κs = search needs
 
--- src/lib.rt:56:19
 image-requires : tie.Need-image-requires
 image-requires c κs = search needs
 
--- src/lib.rt:57:24
 array-borrow-prefix-img : tie.Need-array-borrow-prefix-img
 array-borrow-prefix-img c = words-fit (c .before .before .before .before .before .before .args .log .now) (c .before .before .asked-of .result) (c .before .before .asked-of .ensures) (c .before .image .result) (c .before .image .ensures)
 
--- src/lib.rt:57:24
 slice-aggregate-put-recovered : tie.Need-slice-aggregate-put-recovered
 slice-aggregate-put-recovered c = sym (words-lent (c .before .before .before .before .before .before .before .args .log .now) (c .before .before .before .asked-of .result) (c .before .before .before .asked-of .ensures) (c .before .before .image .result) (c .before .before .image .ensures))
 
--- src/lib.rt:57:5
 put-recovered-requires : tie.Need-put-recovered-requires
 put-recovered-requires c κs = (lent-whole (c .before .before .before .before .before .before .before .args .log .now) (c .before .before .before .asked-of .result) (c .before .before .before .asked-of .ensures) (c .before .before .image .result) (c .before .before .image .ensures), (c .before .before .before .before .if1 .left, omega arith))
 
--- src/lib.rt:47:1
 same-length-2 : tie.Need-same-length-2
 same-length-2 c = search needs
 
--- src/lib.rt:47:1
 returns-2 : tie.Need-returns-2
 returns-2 c = rw (← lent-report (c .before .before .before .before .before .before .before .before .before .before .before .args .log .now) (c .before .before .before .before .before .before .before .asked-of .result) (c .before .before .before .before .before .before .before .asked-of .ensures) (c .before .before .before .before .before .before .image .result) (c .before .before .before .before .before .before .image .ensures) (c .before .before .before .before .before .before .before .before .if1 .left)) (c .before .before .before .put-recovered .ensures)
 

@@ -1,3 +1,4 @@
+-- `reporting::rows::put_kept` meets its contract. Assumes nothing.
 use Rattle.reporting.proofs.Texts.{row-length, row-put, places-most}
 use Rattle.reporting.specs.Report.{answerWord, keptWord, phaseWord, keptText}
 use Rattle.writer.proofs.Puts.{put-then}
@@ -7,39 +8,28 @@ use native.Mathlib.Omega.{arith}
 use borrow.Author.Needs.{needs}
 use Rattle.reporting.proofs.rows.put_kept.Statement.{statement}
 use Rattle.reporting.proofs.rows.put_kept.Tie as tie
-use Rattle.reporting.proofs.rows.put_kept.Reads as reads
-use Rattle.reporting.proofs.rows.put_kept.Lts as lts
-use Rattle.reporting.proofs.rows.put_objects.Reads as put-objects-reads
-use Rattle.reporting.proofs.rows.put_row.Reads as put-row-reads
 
--- src/rows.rt:108:35
 slice-aggregate-put-row : tie.Need-slice-aggregate-put-row
 slice-aggregate-put-row c = search needs
 
--- src/rows.rt:108:9
 put-row-requires : tie.Need-put-row-requires
 put-row-requires c κs = omega (arith, row-length answerWord 0)
 
--- src/rows.rt:109:35
 slice-aggregate-put-row-2 : tie.Need-slice-aggregate-put-row-2
 slice-aggregate-put-row-2 c = search needs
 
--- src/rows.rt:109:9
 put-row-requires-2 : tie.Need-put-row-requires-2
 put-row-requires-2 c κs =
     let a = c .before .before .before .before .before .before .before .before .before .args in
     let p = row-put answerWord 0 (c .before .before .before .before .put-row .ensures) in
     omega (arith, p .0, p .1, row-length keptWord (a .k))
 
--- src/rows.rt:110:35
 slice-aggregate-put-row-3 : tie.Need-slice-aggregate-put-row-3
 slice-aggregate-put-row-3 c = search needs
 
--- src/rows.rt:110:45
 shared-slice-read-put-row : tie.Need-shared-slice-read-put-row
 shared-slice-read-put-row c = search needs
 
--- src/rows.rt:110:9
 put-row-requires-3 : tie.Need-put-row-requires-3
 put-row-requires-3 c κs =
     let a = c .before .before .before .before .before .before .before .before .before .before .before .before .before .before .before .args in
@@ -47,11 +37,9 @@ put-row-requires-3 c κs =
     let q = row-put keptWord (a .k) (c .before .before .before .before .before .put-row2 .ensures) in
     omega (arith, p .0, p .1, q .0, q .1, row-length phaseWord (getD (a .img .now) 2 0))
 
--- src/rows.rt:111:39
 mul-put-objects : tie.Need-mul-put-objects
 mul-put-objects c = let a = c .before .before .before .before .before .before .before .before .before .before .before .before .before .before .before .before .before .before .before .args in omega (arith, places-most (a .p) (a .s) (omega arith) (omega arith) .1)
 
--- src/rows.rt:111:5
 put-objects-requires : tie.Need-put-objects-requires
 put-objects-requires c κs =
     let a = c .before .before .before .before .before .before .before .before .before .before .before .before .before .before .before .before .before .before .before .args in
@@ -61,11 +49,9 @@ put-objects-requires c κs =
     let m = places-most (a .p) (a .s) (omega arith) (omega arith) in
     (omega arith, m .0, omega arith, omega (arith, p .0, p .1, q .0, q .1, f .0, f .1, m .1))
 
--- src/rows.rt:104:1
 same-length : tie.Need-same-length
 same-length c = search needs
 
--- src/rows.rt:104:1
 returns : tie.Need-returns
 unfolding keptText get addr
 returns c =

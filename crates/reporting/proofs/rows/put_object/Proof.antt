@@ -1,32 +1,24 @@
+-- `reporting::rows::put_object` meets its contract. Assumes nothing.
 use Rattle.reporting.specs.Report.{objectWord, spaced, ending, row}
 use Rattle.writer.proofs.Puts.{put-then, room-first, room-then}
 use mathlib.Core.List.{[], _∷_}
 use borrow.Author.Needs.{needs}
 use Rattle.reporting.proofs.rows.put_object.Statement.{statement}
 use Rattle.reporting.proofs.rows.put_object.Tie as tie
-use Rattle.reporting.proofs.rows.put_object.Reads as reads
-use Rattle.reporting.proofs.rows.put_object.Lts as lts
-use Rattle.reporting.proofs.rows.put_last.Reads as put-last-reads
-use Rattle.reporting.proofs.rows.put_spaced.Reads as put-spaced-reads
-use Rattle.reporting.proofs.rows.put_text.Reads as put-text-reads
 
--- src/rows.rt:60:37
 slice-aggregate-put-text : tie.Need-slice-aggregate-put-text
 slice-aggregate-put-text c = search needs
 
--- src/rows.rt:60:9
 put-text-requires : tie.Need-put-text-requires
 unfolding row
 put-text-requires c κs = let a = c .before .before .before .args in room-first objectWord (ending (a .p ∷ a .s ∷ a .v ∷ [])) _ _ (c .before .before .before .pre)
 
--- src/rows.rt:61:9
 put-spaced-requires : tie.Need-put-spaced-requires
 unfolding row
 put-spaced-requires c κs =
     let a = c .before .before .before .before .before .before .before .args in
     room-first (spaced (a .p)) (ending (a .s ∷ a .v ∷ [])) _ _ (room-then (c .before .before .before .put-text .ensures) (ending (a .p ∷ a .s ∷ a .v ∷ [])) (c .before .before .before .before .before .before .before .pre))
 
--- src/rows.rt:62:9
 put-spaced-requires-2 : tie.Need-put-spaced-requires-2
 unfolding row
 put-spaced-requires-2 c κs =
@@ -35,7 +27,6 @@ put-spaced-requires-2 c κs =
     (room-then (c .before .before .before .put-spaced .ensures) (ending (a .s ∷ a .v ∷ []))
     (room-then (c .before .before .before .before .before .before .before .put-text .ensures) (ending (a .p ∷ a .s ∷ a .v ∷ [])) (c .before .before .before .before .before .before .before .before .before .before .before .pre)))
 
--- src/rows.rt:63:5
 put-last-requires : tie.Need-put-last-requires
 unfolding row
 put-last-requires c κs =
@@ -44,11 +35,9 @@ put-last-requires c κs =
     (room-then (c .before .before .before .before .before .before .before .put-spaced .ensures) (ending (a .s ∷ a .v ∷ []))
     (room-then (c .before .before .before .before .before .before .before .before .before .before .before .put-text .ensures) (ending (a .p ∷ a .s ∷ a .v ∷ [])) (c .before .before .before .before .before .before .before .before .before .before .before .before .before .before .before .pre)))
 
--- src/rows.rt:56:1
 same-length : tie.Need-same-length
 same-length c = search needs
 
--- src/rows.rt:56:1
 returns : tie.Need-returns
 unfolding row
 returns c =

@@ -1,3 +1,4 @@
+-- `reporting::rows::put_objects` meets its contract. Assumes nothing.
 use Rattle.reporting.proofs.Texts.{put-more, room-more}
 use Rattle.reporting.specs.Report.{objects}
 use Rattle.writer.proofs.Puts.{put-none, put-length}
@@ -9,9 +10,6 @@ use native.Mathlib.Omega.{arith}
 use borrow.Author.Needs.{needs}
 use Rattle.reporting.proofs.rows.put_objects.Statement.{statement}
 use Rattle.reporting.proofs.rows.put_objects.Tie as tie
-use Rattle.reporting.proofs.rows.put_objects.Reads as reads
-use Rattle.reporting.proofs.rows.put_objects.Lts as lts
-use Rattle.reporting.proofs.rows.put_place.Reads as put-place-reads
 
 abbrev Inv-loop : tie.InvT-loop
 Inv-loop out₀ at img s n next₀ j₀ out next j = (j ≤ n) × Put out₀ out at (objects s img j) next
@@ -19,12 +17,10 @@ Inv-loop out₀ at img s n next₀ j₀ out next j = (j ≤ n) × Put out₀ out
 abbrev μ-loop : tie.MeasureT-loop
 μ-loop out₀ at img s n next₀ j₀ out next j = n - j
 
--- src/rows.rt:79:5
 loop-holds : tie.Need-loop-holds Inv-loop μ-loop
 unfolding objects
 loop-holds c = (search needs, put-none _ _)
 
--- src/rows.rt:80:9
 put-place-requires : tie.Need-put-place-requires Inv-loop μ-loop
 unfolding addr
 put-place-requires c κs =
@@ -32,23 +28,18 @@ put-place-requires c κs =
     let p = c .before .before .loop .inv .1 in
     (omega arith, omega arith, omega arith, room-more _ _ _ p (a .n) (c .before .loop-test .taken) (c .before .before .before .before .before .pre .0) (c .before .before .before .before .before .pre .1) (c .before .before .before .before .before .pre .3))
 
--- src/rows.rt:81:9
 add-j : tie.Need-add-j Inv-loop μ-loop
 add-j c = search needs
 
--- src/rows.rt:79:5
 loop-less : tie.Need-loop-less Inv-loop μ-loop
 loop-less c = search needs
 
--- src/rows.rt:79:5
 loop-again : tie.Need-loop-again Inv-loop μ-loop
 loop-again c = (search needs, put-more _ _ _ (c .before .before .before .before .before .loop .inv .1) (c .before .before .put-place .ensures))
 
--- src/rows.rt:73:1
 same-length : tie.Need-same-length Inv-loop μ-loop
 same-length c = put-length (c .before .loop .inv .1)
 
--- src/rows.rt:73:1
 returns : tie.Need-returns Inv-loop μ-loop
 returns c =
     let e : c .before .loop .j ≡ c .before .before .before .before .args .n = search needs in

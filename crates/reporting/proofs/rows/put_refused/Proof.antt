@@ -1,3 +1,4 @@
+-- `reporting::rows::put_refused` meets its contract. Assumes nothing.
 use Rattle.reporting.proofs.Texts.{row-length, row-put}
 use Rattle.reporting.specs.Report.{answerWord, lineWord, refusedText}
 use Rattle.writer.proofs.Puts.{put-then}
@@ -5,34 +6,25 @@ use native.Mathlib.Omega.{arith}
 use borrow.Author.Needs.{needs}
 use Rattle.reporting.proofs.rows.put_refused.Statement.{statement}
 use Rattle.reporting.proofs.rows.put_refused.Tie as tie
-use Rattle.reporting.proofs.rows.put_refused.Reads as reads
-use Rattle.reporting.proofs.rows.put_refused.Lts as lts
-use Rattle.reporting.proofs.rows.put_row.Reads as put-row-reads
 
--- src/rows.rt:99:35
 slice-aggregate-put-row : tie.Need-slice-aggregate-put-row
 slice-aggregate-put-row c = search needs
 
--- src/rows.rt:99:9
 put-row-requires : tie.Need-put-row-requires
 put-row-requires c κs = omega (arith, row-length answerWord (c .before .before .before .args .n))
 
--- src/rows.rt:100:27
 slice-aggregate-put-row-2 : tie.Need-slice-aggregate-put-row-2
 slice-aggregate-put-row-2 c = search needs
 
--- src/rows.rt:100:5
 put-row-requires-2 : tie.Need-put-row-requires-2
 put-row-requires-2 c κs =
     let a = c .before .before .before .before .before .before .before .before .args in
     let p = row-put answerWord (a .n) (c .before .before .before .before .put-row .ensures) in
     omega (arith, p .0, p .1, row-length lineWord (a .k))
 
--- src/rows.rt:95:1
 same-length : tie.Need-same-length
 same-length c = search needs
 
--- src/rows.rt:95:1
 returns : tie.Need-returns
 unfolding refusedText
 returns c = put-then (c .before .before .before .before .before .before .before .put-row .ensures) (c .before .before .put-row2 .ensures)

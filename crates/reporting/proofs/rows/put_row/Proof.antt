@@ -1,3 +1,4 @@
+-- `reporting::rows::put_row` meets its contract. Assumes nothing.
 use lib.ListN.{length}
 use Rattle.reporting.specs.Report.{ending, row}
 use Rattle.writer.proofs.Puts.{put-then, room-first, room-then}
@@ -5,26 +6,18 @@ use mathlib.Core.List.{[], _∷_}
 use borrow.Author.Needs.{needs}
 use Rattle.reporting.proofs.rows.put_row.Statement.{statement}
 use Rattle.reporting.proofs.rows.put_row.Tie as tie
-use Rattle.reporting.proofs.rows.put_row.Reads as reads
-use Rattle.reporting.proofs.rows.put_row.Lts as lts
-use Rattle.reporting.proofs.rows.put_last.Reads as put-last-reads
-use Rattle.reporting.proofs.rows.put_text.Reads as put-text-reads
 
--- src/rows.rt:51:9
 put-text-requires : tie.Need-put-text-requires
 unfolding row
 put-text-requires c κs = let a = c .before .before .before .args in room-first (a .word .now) (ending (a .n ∷ [])) (a .at) (length (a .out .now)) (c .before .before .before .pre)
 
--- src/rows.rt:52:5
 put-last-requires : tie.Need-put-last-requires
 unfolding row
 put-last-requires c κs = room-then (c .before .before .before .put-text .ensures) (ending (c .before .before .before .before .before .before .before .args .n ∷ [])) (c .before .before .before .before .before .before .before .pre)
 
--- src/rows.rt:47:1
 same-length : tie.Need-same-length
 same-length c = search needs
 
--- src/rows.rt:47:1
 returns : tie.Need-returns
 unfolding row
 returns c = put-then (c .before .before .before .before .before .before .put-text .ensures) (c .before .before .put-last .ensures)

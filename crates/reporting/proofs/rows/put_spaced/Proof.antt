@@ -1,3 +1,4 @@
+-- `reporting::rows::put_spaced` meets its contract. Assumes nothing.
 use Rattle.reporting.specs.Report.{spaced}
 use Rattle.writer.proofs.Puts.{put-byte, put-then}
 use lib.ListN.{length-set}
@@ -6,29 +7,21 @@ use native.Mathlib.Omega.{arith}
 use borrow.Author.Needs.{needs}
 use Rattle.reporting.proofs.rows.put_spaced.Statement.{statement}
 use Rattle.reporting.proofs.rows.put_spaced.Tie as tie
-use Rattle.reporting.proofs.rows.put_spaced.Reads as reads
-use Rattle.reporting.proofs.rows.put_spaced.Lts as lts
-use Rattle.writer.proofs.decimal.put_number.Reads as put-number-reads
 
--- src/rows.rt:32:5
 slice-write-out : tie.Need-slice-write-out
 unfolding spaced
 slice-write-out c = omega arith
 
--- src/rows.rt:33:21
 add-put-number : tie.Need-add-put-number
 add-put-number c = search needs
 
--- src/rows.rt:33:5
 put-number-requires : tie.Need-put-number-requires
 unfolding spaced
 put-number-requires c κs = simp length-set (omega arith)
 
--- src/rows.rt:28:1
 same-length : tie.Need-same-length
 same-length c = c .before .before .put-number .kept .0 ∙ simp length-set
 
--- src/rows.rt:28:1
 returns : tie.Need-returns
 unfolding spaced
 returns c = put-then (put-byte _ _ 32) (c .before .before .put-number .ensures)
