@@ -105,9 +105,15 @@ module _ (S : ℕ) (y : Image) (j : ℕ) {before after : List ℕ} {at next : �
   pub room-more : (n : ℕ) → j < n → S ≤ 64 → n ≤ 16 * S → at + 24 * n ≤ length before → next + 24 ≤ length after
   room-more n h k w r = omega (arith, put-length p, p .next, objects-length S j y k (omega arith))
 
--- after a line of one number: how far on, and as many bytes as before
+-- room for a line, and after it: how far on, and as many bytes as before
+pub row-room : (word : List ℕ) (n at m : ℕ) → at + length word + 12 ≤ m → at + length (row word (n ∷ [])) ≤ m
+row-room word n at m h = omega (arith, row-length word n)
+
 pub row-put : {before after : List ℕ} {at r : ℕ} (word : List ℕ) (n : ℕ) → Put before after at (row word (n ∷ [])) r → (r ≤ at + length word + 12) × (length after ≡ length before)
 row-put word n p = (omega (arith, p .next, row-length word n), put-length p)
+
+pub object-room : (p s v at m : ℕ) → p < 100 → s < 100 → at + 24 ≤ m → at + length (row objectWord (p ∷ s ∷ v ∷ [])) ≤ m
+object-room p s v at m hp hs h = omega (arith, object-length p s v hp hs)
 
 -- a heap has at most 16 partitions, and 1,024 places
 pub places-most : (p s : ℕ) → p ≤ 16 → s ≤ 64 → (p * s ≤ 16 * s) × (p * s ≤ 1024)

@@ -1,7 +1,6 @@
 -- `reporting::rows::put_place` meets its contract. Assumes nothing.
-use lib.ListN.{getD}
-use Prim.Native.Nat.{_+_, _*_}
-use Rattle.reporting.proofs.Texts.{part-small, slot-small, line-length, place-free, place-used}
+use Rattle.reporting.proofs.Texts.{part-small, slot-small, object-room, place-free, place-used}
+-- `reporting::rows::put_place` meets its contract. Assumes nothing.
 use Rattle.writer.proofs.Puts.{put-none}
 use Rattle.model.specs.Image.{addr}
 use native.Mathlib.Omega.{arith}
@@ -29,13 +28,13 @@ div-put-object : tie.Need-div-put-object
 div-put-object c = search needs
 
 cast-put-object : tie.Need-cast-put-object
-cast-put-object c = let a = c .before .before .before .before .before .args in omega (arith, part-small (a .s) (a .j) (omega arith) (omega arith))
+cast-put-object c = let a = c .before .before .before .before .before .args in omega (arith, part-small (a .s) (a .j) (omega arith) (omega arith), slot-small (a .s) (a .j) (omega arith) (omega arith))
 
 rem-put-object : tie.Need-rem-put-object
 rem-put-object c = search needs
 
 cast-put-object-2 : tie.Need-cast-put-object-2
-cast-put-object-2 c = let a = c .before .before .before .before .before .args in omega (arith, slot-small (a .s) (a .j) (omega arith) (omega arith))
+cast-put-object-2 c = let a = c .before .before .before .before .before .args in omega (arith, part-small (a .s) (a .j) (omega arith) (omega arith), slot-small (a .s) (a .j) (omega arith) (omega arith))
 
 add-put-object : tie.Need-add-put-object
 add-put-object c = search needs
@@ -48,7 +47,11 @@ unfolding addr
 shared-slice-read-put-object c = omega arith
 
 put-object-requires : tie.Need-put-object-requires
-put-object-requires c κs = let a = c .before .before .before .before .before .before .args in omega (arith, line-length (a .s) (a .j) (omega arith) (omega arith) (getD (a .img .now) (37 + 6 * a .j + 1) 0))
+put-object-requires c κs =
+    let a = c .before .before .before .before .before .before .args in
+    let p = part-small (a .s) (a .j) (omega arith) (omega arith) in
+    let s = slot-small (a .s) (a .j) (omega arith) (omega arith) in
+    object-room _ _ _ _ _ (omega (arith, p, s)) (omega (arith, p, s)) (omega arith)
 
 same-length : tie.Need-same-length
 same-length c = search needs

@@ -1,6 +1,7 @@
 -- `reporting::rows::put_refused` meets its contract. Assumes nothing.
-use Rattle.reporting.proofs.Texts.{row-length, row-put}
-use Rattle.reporting.specs.Report.{answerWord, lineWord, refusedText}
+use Rattle.reporting.proofs.Texts.{row-room, row-put}
+-- `reporting::rows::put_refused` meets its contract. Assumes nothing.
+use Rattle.reporting.specs.Report.{refusedText}
 use Rattle.writer.proofs.Puts.{put-then}
 use native.Mathlib.Omega.{arith}
 use borrow.Author.Needs.{needs}
@@ -11,16 +12,13 @@ slice-aggregate-put-row : tie.Need-slice-aggregate-put-row
 slice-aggregate-put-row c = search needs
 
 put-row-requires : tie.Need-put-row-requires
-put-row-requires c κs = omega (arith, row-length answerWord (c .before .before .before .args .n))
+put-row-requires c κs = row-room _ _ _ _ (omega arith)
 
 slice-aggregate-put-row-2 : tie.Need-slice-aggregate-put-row-2
 slice-aggregate-put-row-2 c = search needs
 
 put-row-requires-2 : tie.Need-put-row-requires-2
-put-row-requires-2 c κs =
-    let a = c .before .before .before .before .before .before .before .before .args in
-    let p = row-put answerWord (a .n) (c .before .before .before .before .put-row .ensures) in
-    omega (arith, p .0, p .1, row-length lineWord (a .k))
+put-row-requires-2 c κs = let p = row-put _ _ (c .before .before .before .before .put-row .ensures) in row-room _ _ _ _ (omega (arith, p .0, p .1))
 
 same-length : tie.Need-same-length
 same-length c = search needs
