@@ -28,7 +28,7 @@ use Rattle.journal.proofs.Demand.{replayed, demand-2}
 use Rattle.journal.proofs.Carrying.{carry-cut, cut-kept, whole-part}
 use Rattle.promises.specs.Calls.{Call, actOf, Worded, formatting, calling}
 use Rattle.promises.specs.Book.{Page, page, lastWithin, earlierThan, Book, formatted, called, refused, unformatted, moved, recovered, pageOf, pagesBefore, Keeps}
-use Rattle.promises.proofs.Calling.{judgeCall, call-judged, call-accepted, call-refused, format-accepted, format-refused}
+use Rattle.promises.proofs.Calling.{judgeCall, call-judged, call-accepted, refused-leaves, format-accepted, refused-format-leaves}
 
 -- words 0 and 1 of a reached heap
 pub record Headed (P S : ℕ) (y : Image) : Type 0 where
@@ -160,10 +160,10 @@ module _ (P S : ℕ) where
   book-keeps (formatted img log z) = keeps-format img log z
   book-keeps (called b c w z) = keeps-call (book-keeps b) c w z
   book-keeps (refused {now = now} {log = log} b c at ne) =
-      let m = call-refused (now .image) c log at ne in
+      let m = refused-leaves (now .image) c log at ne in
       rw (m .image-is, m .log-is) (book-keeps b)
   book-keeps (unformatted {now = now} {log = log} b P′ S′ at ne) =
-      let m = format-refused (now .image) P′ S′ log at ne in
+      let m = refused-format-leaves (now .image) P′ S′ log at ne in
       rw (m .image-is, m .log-is) (book-keeps b)
   book-keeps (moved {now = now} b other e) =
       let k = book-keeps b in

@@ -1,7 +1,7 @@
 -- The two ways of a call: accepted, it performs its act and logs its record; refused, it leaves all as it was, and its number is not 0.
 -- Assumes nothing.
 use Prim.Native.Nat.{ℕ, _+_, _≤_, _<_}
-use mathlib.Core.Path.{_≡_, refl, sym, ap, _∙_}
+use mathlib.Core.Path.{_≡_, refl, ap}
 use mathlib.Core.Bool.{Bool, true, false}
 use mathlib.Core.List.{List}
 use mathlib.Core.Logic.{_≢_}
@@ -25,7 +25,7 @@ use Rattle.catalogue.specs.Call.{Outcome, judgeIn, applyIn, judgeAct, judgeComm
 use Rattle.catalogue.proofs.Judged.{act-sound, act-judged, commit-sound, commit-judged}
 use Rattle.catalogue.proofs.Numbers.{Among, accepted, numbered, act-among, format-among}
 use Rattle.promises.specs.Calls.{Call, commit-call, open-call, close-call, trace-call, actOf, Made, answered, closed-up, formatting, calling}
-use Rattle.promises.proofs.Listing.{fully, fully-done, Performed, did, left, performed}
+use Rattle.promises.proofs.Listing.{fully, Performed, did, left, performed}
 
 -- a verdict that is not a refusal with the number k
 unfoldable pub Beside : ℕ → Verdict → Type 0
@@ -149,23 +149,13 @@ pub call-accepted : (img : Image) (c : Call) (log : List ℕ) (at : ℕ) → (ca
     → Accepting (judgeCall img c) (recordOf (actOf c)) (applyIn img (actOf c)) log at (calling img c log at)
 call-accepted img c log at z = accepting (call-numbers img c) (call-ways img c log at) z
 
-pub call-refused : (img : Image) (c : Call) (log : List ℕ) (at : ℕ) → (calling img c log at) .number ≢ 0 → Refusing img log (calling img c log at)
-call-refused img c log at ne = refusing (call-ways img c log at) ne
+-- A REFUSED CALL LEAVES IMAGE AND LOG, whatever the call
+pub refused-leaves : (img : Image) (c : Call) (log : List ℕ) (at : ℕ) → (calling img c log at) .number ≢ 0 → Refusing img log (calling img c log at)
+refused-leaves img c log at ne = refusing (call-ways img c log at) ne
 
 pub format-accepted : (img : Image) (P S : ℕ) (log : List ℕ) (at : ℕ) → (formatting img P S log at) .number ≡ 0
     → Accepting (judgeFormat P S (lengthOf img)) (headingOf P S) (blank P S) log at (formatting img P S log at)
 format-accepted img P S log at z = accepting (beside-among 0 2 2 _ (omega arith) (format-among P S (lengthOf img))) (format-ways img P S log at) z
 
-pub format-refused : (img : Image) (P S : ℕ) (log : List ℕ) (at : ℕ) → (formatting img P S log at) .number ≢ 0 → Refusing img log (formatting img P S log at)
-format-refused img P S log at ne = refusing (format-ways img P S log at) ne
-
--- and a call that is judged accepted and has room is accepted
-pub call-does : {u : Verdict} {bytes : List ℕ} {next img : Image} {log : List ℕ} {at : ℕ} {m : Made}
-    → Ways u bytes next img log at m → u ≡ Accepted → at + length bytes ≤ length log → m .number ≡ 0
-unfolding andThen check
-call-does (done a l) e r = refl
-call-does {bytes = bytes} {log = log} {at = at} (not-done r q) e l =
-    let z : _≡_ {A = ℕ} 0 1 = no-refusal r (sym (fully-done _ bytes log at e l) ∙ q) in absurd (omega arith)
-  where
-    no-refusal : (r : Refusal) → _≡_ {A = Verdict} Accepted (Refused r) → _≡_ {A = ℕ} 0 1
-    no-refusal r e = cc
+pub refused-format-leaves : (img : Image) (P S : ℕ) (log : List ℕ) (at : ℕ) → (formatting img P S log at) .number ≢ 0 → Refusing img log (formatting img P S log at)
+refused-format-leaves img P S log at ne = refusing (format-ways img P S log at) ne

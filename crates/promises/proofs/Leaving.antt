@@ -1,4 +1,4 @@
--- Demand 1, what refusals leave: a refused call leaves image and log; a refused recovery leaves zeros and keeps nothing, and every call but format and
+-- Demand 1, what refusals leave (of a call: `refused-leaves` in Calling): a refused recovery leaves zeros and keeps nothing, and every call but format and
 -- recover refuses zeros with 1; with no root in use no phase opens or closes.
 -- Assumes nothing.
 use Prim.Native.Nat.{ℕ, _+_}
@@ -22,16 +22,9 @@ use Rattle.journal.specs.Recover.{Stand, early, going, stopped, reader, feedAll
 use Rattle.catalogue.specs.Answers.{Said, refusedWith, said, totals, saidClosing, saidReading, saidAsked}
 use Rattle.catalogue.specs.Call.{perform, judgeAct, judgeCommit, judgeObject, callOf, commitOf, openOf, traceOf, closeOf, readingOf, askedOf}
 use Rattle.promises.specs.Rows.{NoRoot}
-use Rattle.promises.specs.Calls.{Call, open-call, close-call, formatting, calling}
-use Rattle.promises.proofs.Calling.{Refusing, call-refused, format-refused}
+use Rattle.promises.specs.Calls.{open-call, close-call, calling}
+use Rattle.promises.proofs.Calling.{Refusing, refused-leaves}
 use Rattle.promises.proofs.Refusals.{open-first, close-first}
-
--- A REFUSED CALL LEAVES IMAGE AND LOG, whatever the call: its number is not 0
-pub refused-leaves : (img : Image) (c : Call) (log : List ℕ) (at : ℕ) → (calling img c log at) .number ≢ 0 → Refusing img log (calling img c log at)
-refused-leaves = call-refused
-
-pub refused-format-leaves : (img : Image) (P S : ℕ) (log : List ℕ) (at : ℕ) → (formatting img P S log at) .number ≢ 0 → Refusing img log (formatting img P S log at)
-refused-format-leaves = format-refused
 
 -- A REFUSED RECOVERY LEAVES ZEROS and keeps nothing
 pub refused-recovery : (log : List ℕ) (len : ℕ) → (recoverOf log len) .verdict ≢ Accepted → ((recoverOf log len) .image ≡ replicate len 0) × ((recoverOf log len) .kept ≡ 0)
@@ -82,7 +75,7 @@ numbered s z n e ne q m = ne (sym (ap (λ (t : Said _). t .number) q) ∙ m)
 
 module _ (img : Image) (log : List ℕ) (at : ℕ) (none : NoRoot img) where
   pub rootless-open : ((calling img open-call log at) .number ≢ 0) × Refusing img log (calling img open-call log at)
-  rootless-open = let ne = refused in (ne, call-refused img open-call log at ne)
+  rootless-open = let ne = refused in (ne, refused-leaves img open-call log at ne)
     where
       refused : (calling img open-call log at) .number ≢ 0
       refused =
@@ -91,7 +84,7 @@ module _ (img : Image) (log : List ℕ) (at : ℕ) (none : NoRoot img) where
           (λ y. ⊎-elim (λ w. numbered _ 0 12 0 (λ z. omega arith) (w .1)) (λ w. absurd (w .0 none)) (y .1)) (x .1)) (open-first img log at)
 
   pub rootless-close : ((calling img close-call log at) .number ≢ 0) × Refusing img log (calling img close-call log at)
-  rootless-close = let ne = refused in (ne, call-refused img close-call log at ne)
+  rootless-close = let ne = refused in (ne, refused-leaves img close-call log at ne)
     where
       refused : (calling img close-call log at) .number ≢ 0
       refused =

@@ -5,11 +5,11 @@ use mathlib.Core.Path.{_≡_, refl, sym, ap, _∙_}
 use mathlib.Core.Bool.{Bool, true, false, cond}
 use mathlib.Core.List.{List, [], _∷_, _++_}
 use mathlib.Core.Logic.{_⊎_, inl, inr, ⊎-elim}
-use native.Mathlib.Omega.{arith}
 use lib.Dec.{leb}
 use lib.ListN.{length}
 use borrow.Author.Tests.{leb-true, le-leb}
 use Rattle.kinds.specs.Answers.{refuse}
+use Rattle.kinds.proofs.Answers.{unlike}
 use Rattle.kinds.specs.declared.Refusal.{Refusal}
 use Rattle.kinds.specs.declared.Verdict.{Verdict}
 use Rattle.kinds.specs.declared.Verdict.the-variants.{Accepted, Refused}
@@ -68,10 +68,7 @@ found-then (telling n E ∷ rows) more u w f g =
 -- a refusal by a list stays, whatever comes after it
 pub found-stays : (rows more : List Row) (r : Refusal) → Found rows (Refused r) → Found (rows ++ more) (Refused r)
 unfolding Found
-found-stays [] more r f = absurd (no-refusal r f)
-  where
-    no-refusal : (r : Refusal) → _≡_ {A = Verdict} (Refused r) Accepted → ⊥
-    no-refusal r e = let z : _≡_ {A = ℕ} 0 1 = cc in omega arith
+found-stays [] more r f = unlike f
 found-stays (given n e C ∷ rows) more r f = ⊎-elim (λ x. inl x) (λ x. inr (x .0, found-stays rows more r (x .1))) f
 found-stays (telling n E ∷ rows) more r f = ⊎-elim (λ x. inl x) (λ x. inr (x .0, found-stays rows more r (x .1))) f
 

@@ -21,12 +21,11 @@ use Rattle.model.specs.History.{Run, still, acted, traces, Unclosed, unrooted}
 use Rattle.model.specs.Judge.{check, inLimits, rooted, lowest, judge}
 use Rattle.model.specs.Sound.{isSound}
 use Rattle.model.proofs.Chaining.{Stays}
-use Rattle.model.proofs.Demand.{Demand-3, demand-3}
+use Rattle.model.proofs.Demand.{Demand-3, run-append, demand-3}
 use Rattle.model.proofs.Reaching.{reached as heap-reached}
 use Rattle.model.proofs.Refusing.{never-15-16}
 use Rattle.model.proofs.Soundness.{limits-true}
 use Rattle.writer.specs.Record.{recordOf}
-use Rattle.journal.proofs.Carrying.{run-append}
 use Rattle.catalogue.specs.declared.Answer.the-variants.{Done, Refused as NotDone}
 use Rattle.catalogue.specs.declared.Closing.the-variants.{Refused as NotClosed}
 use Rattle.catalogue.specs.Answers.{accepted, totals, said, saidClosing}
@@ -36,7 +35,7 @@ use Rattle.promises.specs.Calls.{Call, commit-call, open-call, close-cal
 use Rattle.promises.specs.World.{World, logged}
 use Rattle.promises.specs.Phase.{During, opened, called, refused, unformatted}
 use Rattle.promises.proofs.Books.{Headed, reached-headed, call-leaves}
-use Rattle.promises.proofs.Calling.{Beside, beside-is, beside-not, fully-beside, call-beside, Ways, done, not-done, call-ways, call-refused, format-refused}
+use Rattle.promises.proofs.Calling.{Beside, beside-is, beside-not, fully-beside, call-beside, Ways, done, not-done, call-ways, refused-leaves, refused-format-leaves}
 use Rattle.promises.proofs.Conditions.{found-lowest, test-rooted}
 use Rattle.promises.proofs.Listing.{fully, fully-done, telled, said-perform}
 use Rattle.promises.proofs.Reached.{reached}
@@ -118,8 +117,8 @@ module _ (P S : ℕ) (good : inLimits P S ≡ true) (history : List Act) (x : Im
       let p = phased d in
       let j = call-leaves P S y c log at (reached-headed P S good (whole p)) z in
       record { opens = p .opens; run = rw (j .1) (acted (actOf c) (p .run) (j .0)); unclosed = unclosed-call c acts ne (p .unclosed) }
-  phased (refused {y = y} d c log at ne) = rw (call-refused y c log at ne .image-is) (phased d)
-  phased (unformatted {y = y} d P′ S′ log at ne) = rw (format-refused y P′ S′ log at ne .image-is) (phased d)
+  phased (refused {y = y} d c log at ne) = rw (refused-leaves y c log at ne .image-is) (phased d)
+  phased (unformatted {y = y} d P′ S′ log at ne) = rw (refused-format-leaves y P′ S′ log at ne .image-is) (phased d)
 
   module _ (acts : List Act) (y : Image) (d : During x acts y) where
     promised : Demand-3 P S history x acts y

@@ -24,7 +24,7 @@ use Rattle.journal.proofs.Demand.{replayed}
 use Rattle.promises.specs.Calls.{Call, actOf, Worded, formatting, calling}
 use Rattle.promises.specs.World.{Origin, as-lent, emptied, logged, World, lent, formatted, unformatted, called, refused, recovered, unrecovered, Lent, Emptied, Replayed, Stands}
 use Rattle.promises.proofs.Books.{Headed, reached-headed, format-limits, call-leaves}
-use Rattle.promises.proofs.Calling.{call-judged, call-accepted, call-refused, format-accepted, format-refused}
+use Rattle.promises.proofs.Calling.{call-judged, call-accepted, refused-leaves, format-accepted, refused-format-leaves}
 use Rattle.promises.proofs.Leaving.{refused-recovery}
 
 -- an accepted call's image is sound
@@ -97,9 +97,9 @@ pub reached : {w : Image} {o : Origin} {acts : List Act} {x : Image} → World w
 reached lent = record { run = still; start = inl refl }
 reached (formatted {x = x} l P S log at z) = stands-formatted x P S log at z
 reached {w} {o} {acts} (unformatted {x = x} l P S log at ne) =
-    subst (Stands w o acts) (sym (format-refused x P S log at ne .image-is)) (reached l)
+    subst (Stands w o acts) (sym (refused-format-leaves x P S log at ne .image-is)) (reached l)
 reached {w} {o} (called {acts = acts} {x = x} l c wd log at z) = stands-called w o acts x c log at wd z (reached l)
-reached {w} {o} {acts} (refused {x = x} l c log at ne) = subst (Stands w o acts) (sym (call-refused x c log at ne .image-is)) (reached l)
+reached {w} {o} {acts} (refused {x = x} l c log at ne) = subst (Stands w o acts) (sym (refused-leaves x c log at ne .image-is)) (reached l)
 reached (recovered {x = x} l log b e) =
     let k = any-bytes log (lengthOf x) b e in
     record {

@@ -13,7 +13,7 @@ use Rattle.kinds.specs.Names.{mostOperations}
 use Rattle.kinds.specs.Answers.{refuse}
 use Rattle.kinds.specs.declared.Operation.{Operation as Op}
 use Rattle.kinds.specs.declared.Operation.the-variants.{New, Set, Val, Root}
-use Rattle.kinds.specs.declared.Refusal.{Refusal}
+use Rattle.kinds.proofs.Answers.{unlike}
 use Rattle.kinds.specs.declared.Verdict.{Verdict}
 use Rattle.kinds.specs.declared.Verdict.the-variants.{Accepted, Refused}
 use Rattle.lines.specs.declared.line.Line.{Line}
@@ -307,8 +307,4 @@ recover-first log len = subst (First 0 kept rows) (same (recoverOf log len .verd
 
     same : (v : Verdict) → (recoverOf log len) .verdict ≡ v → telled 0 kept v ≡ saidKept v kept
     same Accepted e = refl
-    same (Refused r) e =
-        ap (λ (k : ℕ). refusedWith k r) (sym (refused-recovery log len (λ q. no-refusal r (sym e ∙ q)) .1))
-      where
-        no-refusal : (r : Refusal) → _≡_ {A = Verdict} (Refused r) Accepted → ⊥
-        no-refusal r e = let z : _≡_ {A = ℕ} 0 1 = cc in omega arith
+    same (Refused r) e = ap (λ (k : ℕ). refusedWith k r) (sym (refused-recovery log len (λ q. unlike (sym e ∙ q)) .1))
