@@ -8,3 +8,4 @@ pub mod Recoveries
 pub mod Reached
 pub mod Phases
 pub mod Table
+pub mod Once
