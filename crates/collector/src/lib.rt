@@ -161,7 +161,8 @@ pub fn judge_trace(img: &[u32], p: usize, s: usize, t: kinds::Partition) -> kind
     requires { ⌜ Within p s (now img) ⌝ }
     ensures { λ r. ⌜ r ≡ judge p s (now (img .entry)) (trace (t .0)) ⌝ }
 {
-    if img[image::PHASE] != 1 {
+    let phase = img[image::PHASE];
+    if phase != 1 {
         return kinds::Verdict::refuse(kinds::Refusal::SHUT, 0);
     }
     let q = t.0 as usize;

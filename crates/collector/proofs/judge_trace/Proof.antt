@@ -6,8 +6,8 @@ use borrow.Author.Needs.{needs}
 use Rattle.collector.proofs.judge_trace.Statement.{statement}
 use Rattle.collector.proofs.judge_trace.Tie as tie
 
-shared-slice-read-if1 : tie.Need-shared-slice-read-if1
-shared-slice-read-if1 c = search needs
+shared-slice-read-phase : tie.Need-shared-slice-read-phase
+shared-slice-read-phase c = search needs
 
 refuse-requires : tie.Need-refuse-requires
 refuse-requires c κs = search needs
@@ -76,7 +76,7 @@ pub judge-trace-spec : {M : Type 1} → statement M
 judge-trace-spec =
     tie.close
     (tie.spec
-    shared-slice-read-if1
+    shared-slice-read-phase
     refuse-requires
     returns
     cast-q
