@@ -17,7 +17,7 @@ ghost use lib.ListN.{length};
 ghost use Rattle.lines.specs.Print.{Put};
 ghost use Rattle.writer.specs.Write.{wrote};
 ghost use Rattle.journal.specs.Recover.{recoverOf};
-ghost use Rattle.reporting.specs.Report.{mostBytes, room, shown, recoveredText, reportOf, reported};
+ghost use Rattle.reporting.specs.Report.{mostBytes, room, shown, reportOf, reported};
 
 // The most bytes of a log.
 pub const MOST: usize = 32768;

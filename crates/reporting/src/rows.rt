@@ -1,10 +1,9 @@
 // The report's lines, put one after the other into the lent bytes; each function answers the place after what it put.
-ghost use mathlib.Core.Path.{_≡_};
 ghost use mathlib.Core.List.{[], _∷_};
-ghost use Prim.Native.Nat.{_+_, _*_, _<_, _≤_, _^_};
+ghost use Prim.Native.Nat.{_+_, _*_, _<_, _≤_};
 ghost use lib.ListN.{length};
 ghost use Rattle.lines.specs.Print.{Put};
-ghost use Rattle.model.specs.Image.{addr, state, payload};
+ghost use Rattle.model.specs.Image.{addr, payload};
 ghost use Rattle.reporting.specs.Report.{room, toolongWord, objectWord, spaced, ending, row, objectAt, objects, refusedText, keptText};
 use image::FRONT;
 use image::PHASE;
