@@ -19,4 +19,3 @@ pub mod Asking
 pub mod Quiet
 pub mod Demand
 pub mod Answers
-pub mod Table

@@ -1,0 +1,203 @@
+-- Each test of a judge fails exactly where the table's condition holds.
+-- Assumes nothing.
+use Prim.Native.Nat.{ℕ, zero, suc, _+_, _*_, _≤_, _<_}
+use mathlib.Core.Path.{_≡_, refl, sym}
+use mathlib.Core.Bool.{Bool, true, false, not, cond, true≢false}
+use mathlib.Core.Logic.{_≢_, _⊎_, inl, inr, ⊎-elim}
+use native.Mathlib.Nat.{eq-or-lt-of-le}
+use native.Mathlib.Omega.{arith}
+use lib.Dec.{eqb, ltb, leb}
+use borrow.Author.Tests.{eqb-true, eqb-false, eq-eqb, ltb-true, ltb-false, leb-true, leb-false, not-true, not-false}
+use Rattle.loops.specs.Loop.{both, tally, every, first}
+use Rattle.loops.proofs.Tests.{clash, lt-or-ge}
+use Rattle.loops.proofs.Loops.{tally-zero, every-true, every-so, every-false}
+use Rattle.kinds.specs.Names.{mostPartitions, mostSlots, roots}
+use Rattle.kinds.specs.declared.Name.{Name}
+use Rattle.kinds.specs.declared.Target.{Target}
+use Rattle.kinds.specs.declared.Target.the-variants.{Nothing, Object}
+use Rattle.model.specs.Image.{Image, Key, root, flag, state, field, partitions, slots, phase, anchors, get, size, place, placeOf, a-root as holds-root, a-field as holds-field}
+use Rattle.model.specs.Acts.{used, marked, isOpen, notClean}
+use Rattle.model.specs.Judge.{inLimits, inHeap, targetInHeap, targetUsed, rooted, leadsOn, led, lowest}
+use Rattle.model.specs.Sound.{isSound}
+use Rattle.model.proofs.Closing.{led-leads}
+use Rattle.model.proofs.Soundness.{sound-true, sound-back}
+use Rattle.promises.specs.Rows.{Unsound, WrongSize, no-partition, many-partitions, no-slot, many-slots, wrong-length, TooLarge, TargetTooLarge, InUse, NotInUse, TargetNotInUse, NotOpen, AlreadyOpen, NoRoot, Clean, Lowest, Live, a-root, a-field, Astray}
+use Rattle.promises.proofs.Listing.{Tests}
+
+-- tests of numbers
+pub test-lt : (a b : ℕ) → Tests (ltb a b) (b ≤ a)
+test-lt a b = record { fails = ltb-false a b; passes = λ e c. let l = ltb-true a b e in omega arith }
+
+pub test-le : (a b : ℕ) → Tests (leb a b) (b < a)
+test-le a b = record { fails = leb-false a b; passes = λ e c. let l = leb-true a b e in omega arith }
+
+pub test-eq : (a b : ℕ) → Tests (eqb a b) (a ≢ b)
+test-eq a b = record { fails = eqb-false a b; passes = λ e c. c (eqb-true a b e) }
+
+pub test-ne : (a b : ℕ) → Tests (not (eqb a b)) (a ≡ b)
+test-ne a b = record { fails = λ e. eqb-true a b (not-false _ e); passes = λ e c. eqb-false a b (not-true _ e) c }
+
+-- two tests
+pub test-both : (a b : Bool) (C D : Type 0) → Tests a C → Tests b D → Tests (both a b) (C ⊎ D)
+test-both true b C D t u = record { fails = λ e. inr (u .fails e); passes = λ e x. ⊎-elim (t .passes refl) (u .passes e) x }
+test-both false b C D t u = record { fails = λ e. inl (t .fails refl); passes = λ e x. true≢false (sym e) }
+
+-- a condition said in another way
+pub test-as : (b : Bool) (C D : Type 0) → (C → D) → (D → C) → Tests b C → Tests b D
+test-as b C D f g t = record { fails = λ e. f (t .fails e); passes = λ e d. t .passes e (g d) }
+
+-- 1
+pub test-sound : (img : Image) → Tests (isSound img) (Unsound img)
+test-sound img = record { fails = λ e s. clash (sound-back img s) e; passes = λ e u. u (sound-true img e) }
+
+-- 2
+pub test-size : (P S n : ℕ) → Tests (both (inLimits P S) (eqb n (size P S))) (WrongSize P S n)
+unfolding inLimits
+test-size P S n =
+    test-as _ _ _
+    (⊎-elim
+    (⊎-elim (⊎-elim (λ l. no-partition (omega arith)) (λ l. many-partitions l)) (⊎-elim (λ l. no-slot (omega arith)) (λ l. many-slots l)))
+    (λ l. wrong-length l))
+    back
+    (test-both _ _ _ _
+    (test-both _ _ _ _ (test-both _ _ _ _ (test-lt 0 P) (test-le P mostPartitions)) (test-both _ _ _ _ (test-lt 0 S) (test-le S mostSlots)))
+    (test-eq n (size P S)))
+  where
+    back : WrongSize P S n → (((P ≤ 0) ⊎ (mostPartitions < P)) ⊎ ((S ≤ 0) ⊎ (mostSlots < S))) ⊎ (n ≢ size P S)
+    back (no-partition l) = inl (inl (inl (omega arith)))
+    back (many-partitions l) = inl (inl (inr l))
+    back (no-slot l) = inl (inr (inl (omega arith)))
+    back (many-slots l) = inl (inr (inr l))
+    back (wrong-length l) = inr l
+
+-- 7
+pub test-name : (P S : ℕ) (n : Name) → Tests (inHeap P S n) (TooLarge P S n)
+test-name P S n = test-both _ _ _ _ (test-lt (n .partition .0) P) (test-lt (n .slot .0) S)
+
+pub test-target : (P S : ℕ) (t : Target) → Tests (targetInHeap P S t) (TargetTooLarge P S t)
+test-target P S Nothing = record { fails = λ e. absurd (true≢false e); passes = λ e c. c }
+test-target P S (Object q) = test-name P S q
+
+-- 8 and 9
+pub test-free : (S : ℕ) (img : Image) (n : Name) → Tests (not (used img (place S n))) (InUse S img n)
+test-free S img n =
+    record {
+      fails = λ e. eqb-false (get img (state (place S n))) 0 (not-true _ (not-false _ e));
+      passes = λ e c. c (eqb-true (get img (state (place S n))) 0 (not-false _ (not-true _ e)));
+    }
+
+pub test-used : (S : ℕ) (img : Image) (n : Name) → Tests (used img (place S n)) (NotInUse S img n)
+test-used S img n = test-ne (get img (state (place S n))) 0
+
+pub test-target-used : (S : ℕ) (img : Image) (t : Target) → Tests (targetUsed S img t) (TargetNotInUse S img t)
+test-target-used S img Nothing = record { fails = λ e. absurd (true≢false e); passes = λ e c. c }
+test-target-used S img (Object q) = test-used S img q
+
+-- 10 and 11
+pub test-open : (img : Image) → Tests (isOpen img) (NotOpen img)
+test-open img = test-eq (get img phase) 1
+
+pub test-shut : (img : Image) → Tests (not (isOpen img)) (AlreadyOpen img)
+test-shut img = test-ne (get img phase) 1
+
+-- 12
+pub test-rooted : (img : Image) → Tests (rooted img) (NoRoot img)
+unfolding rooted
+test-rooted img =
+    record {
+      fails = λ e r l. eqb-true (get img (root r)) 0 (every-true roots (λ r. eqb (get img (root r)) 0) (not-false _ e) r l);
+      passes = λ e c. clash (every-so roots (λ r. eqb (get img (root r)) 0) (λ r l. eq-eqb (get img (root r)) 0 (c r l))) (not-true _ e);
+    }
+
+-- 13
+pub test-unclean : (img : Image) (p : ℕ) → Tests (eqb (get img (flag p)) 0) (Clean img p)
+test-unclean img p = test-eq (get img (flag p)) 0
+
+-- 14: where a partition is not clean there is a lowest one, and the judge finds it
+tally-found : (n : ℕ) (f : ℕ → Bool) → tally n f ≢ 0 → (i : ℕ) × (i < n) × (f i ≡ true)
+unfolding tally
+tally-found zero f ne = absurd (ne refl)
+tally-found (suc n) f ne = go (f n) refl (λ q. tally-found n f q)
+  where
+    go : (b : Bool) → f n ≡ b → (tally n f ≢ 0 → (i : ℕ) × (i < n) × (f i ≡ true)) → (i : ℕ) × (i < suc n) × (f i ≡ true)
+    go true e ih = (n, omega arith, e)
+    go false e ih = let r = ih (λ z. ne (rw (z, e))) in (r .0, omega arith, r .2)
+
+record FirstAt (n i : ℕ) (f : ℕ → Bool) (m : ℕ) : Type 0 where
+  pub within : m < i + n
+  pub found : f m ≡ true
+  pub none-below : (k : ℕ) → i ≤ k → k < m → f k ≡ false
+
+first-at : (n i : ℕ) (f : ℕ → Bool) (j : ℕ) → i ≤ j → j < i + n → f j ≡ true → FirstAt n i f (first n i f)
+unfolding first
+first-at zero i f j l m e = absurd (omega arith)
+first-at (suc n) i f j l m e = go (f i) refl (λ p q. first-at n (suc i) f j p q e)
+  where
+    go : (b : Bool) → f i ≡ b → (suc i ≤ j → j < suc i + n → FirstAt n (suc i) f (first n (suc i) f)) → FirstAt (suc n) i f (cond b i (first n (suc i) f))
+    go true q r = record { within = omega arith; found = q; none-below = λ k a b. absurd (omega arith) }
+    go false q r =
+        let later : suc i ≤ j = ⊎-elim (λ s. absurd (clash e (rw s at q))) (λ s. s) (eq-or-lt-of-le l) in
+        let h : FirstAt n (suc i) f (first n (suc i) f) = r later (omega arith) in
+        let w = h .within in
+        record { within = omega arith; found = h .found; none-below = λ k a b. ⊎-elim (λ s. rw (← s) q) (λ s. h .none-below k s b) (eq-or-lt-of-le a) }
+
+pub found-lowest : (img : Image) → notClean (get img partitions) img ≢ 0 → Lowest img (lowest (get img partitions) img)
+unfolding notClean lowest
+found-lowest img ne =
+    let P : ℕ = get img partitions in
+    let r = tally-found P (λ p. eqb (get img (flag p)) 0) ne in
+    let h = first-at P 0 (λ p. eqb (get img (flag p)) 0) (r .0) (omega arith) (omega (arith, r .1)) (r .2) in
+    let w = h .within in
+    record { within = omega arith; not-clean = eqb-true _ _ (h .found); clean-below = λ q l. eqb-false _ _ (h .none-below q (omega arith) l) }
+
+pub none-lowest : (img : Image) → notClean (get img partitions) img ≡ 0 → (p : ℕ) → Lowest img p → ⊥
+unfolding notClean
+none-lowest img z p l = eqb-false _ _ (tally-zero (get img partitions) (λ p. eqb (get img (flag p)) 0) z p (l .within)) (l .not-clean)
+
+pub one-lowest : (img : Image) (p q : ℕ) → Lowest img p → Lowest img q → p ≡ q
+one-lowest img p q l m =
+    ⊎-elim (λ a. absurd (m .clean-below p a (l .not-clean))) (λ a. ⊎-elim (λ e. sym e) (λ b. absurd (l .clean-below q b (m .not-clean))) (eq-or-lt-of-le a)) (lt-or-ge p q)
+
+-- 16
+both-one : (a b : Bool) → both a b ≡ false → (a ≡ false) ⊎ (b ≡ false)
+both-one true b e = inr e
+both-one false b e = inl refl
+
+cond-one : (a b : Bool) → cond a b true ≡ false → (a ≡ true) × (b ≡ false)
+cond-one true b e = (refl, e)
+cond-one false b e = absurd (true≢false e)
+
+leads-not : (S : ℕ) (img : Image) (κ : Key) → leadsOn S img κ ≡ false → (get img κ ≢ 0) × (get img (state (placeOf S (get img κ))) ≢ 2)
+leads-not S img κ e = go (eqb (get img κ) 0) refl e
+  where
+    go : (b : Bool) → eqb (get img κ) 0 ≡ b → cond b true (marked img (placeOf S (get img κ))) ≡ false → (get img κ ≢ 0) × (get img (state (placeOf S (get img κ))) ≢ 2)
+    go true q f = absurd (true≢false f)
+    go false q f = (eqb-false _ _ q, eqb-false _ _ f)
+
+pub test-led : (img : Image) → Tests (led (get img partitions) (get img slots) img) (Astray img)
+unfolding led
+test-led img = record { fails = λ e. ⊎-elim roots-astray fields-astray (both-one _ _ e); passes = λ e a. go e (a .holder) (a .live) (a .some) (a .unmarked) }
+  where
+    P : ℕ
+    P = get img partitions
+
+    S : ℕ
+    S = get img slots
+
+    roots-astray : every anchors (λ r. leadsOn S img (root r)) ≡ false → Astray img
+    roots-astray e =
+        let r = every-false anchors (λ r. leadsOn S img (root r)) e in
+        let n = leads-not S img (root (r .0)) (r .2) in
+        record { holder = root (r .0); live = a-root (r .1); some = n .0; unmarked = n .1 }
+
+    fields-astray : every (P * S) (λ j. cond (marked img j) (every 4 (λ k. leadsOn S img (field j k))) true) ≡ false → Astray img
+    fields-astray e =
+        let j = every-false (P * S) (λ j. cond (marked img j) (every 4 (λ k. leadsOn S img (field j k))) true) e in
+        let c = cond-one _ _ (j .2) in
+        let k = every-false 4 (λ k. leadsOn S img (field (j .0) k)) (c .1) in
+        let n = leads-not S img (field (j .0) (k .0)) (k .2) in
+        record { holder = field (j .0) (k .0); live = a-field (j .1) (eqb-true _ _ (c .0)) (k .1); some = n .0; unmarked = n .1 }
+
+    go : led P S img ≡ true → (κ : Key) → Live img κ → get img κ ≢ 0 → get img (state (placeOf S (get img κ))) ≢ 2 → ⊥
+    go e _ (a-root {r = r} l) s u = u (led-leads P S img e (root r) (holds-root l) tt s)
+    go e _ (a-field {j = j} {k = k} l m b) s u = u (led-leads P S img e (field j k) (holds-field l b) m s)

@@ -1,0 +1,93 @@
+-- Demand 1, what refusals leave (of a call: `refused-leaves` in Calling): a refused recovery leaves zeros and keeps nothing, and every call but format and
+-- recover refuses zeros with 1; with no root in use no phase opens or closes.
+-- Assumes nothing.
+use Prim.Native.Nat.{ℕ, _+_}
+use mathlib.Core.Path.{_≡_, refl, sym, ap, _∙_}
+use mathlib.Core.Bool.{Bool, true, false, cond}
+use mathlib.Core.List.{List, []}
+use mathlib.Core.Logic.{_≢_, ⊎-elim}
+use native.Mathlib.Omega.{arith}
+use lib.ListN.{replicate}
+use Rattle.kinds.specs.Answers.{blankRecord}
+use Rattle.kinds.specs.declared.Name.{Name}
+use Rattle.kinds.specs.declared.Partition.{Partition}
+use Rattle.kinds.specs.declared.Operation.{Operation}
+use Rattle.kinds.specs.declared.Refusal.{Refusal}
+use Rattle.kinds.specs.declared.Verdict.the-variants.{Accepted}
+use Rattle.model.specs.Image.{Image}
+use Rattle.model.specs.Judge.{check}
+use Rattle.model.specs.Sound.{isSound}
+use Rattle.model.proofs.SoundnessActs.{zeros-unsound}
+use Rattle.journal.specs.Recover.{Stand, early, going, stopped, reader, feedAll, refusal, recovery, tailOk, close, answer, recoverOf}
+use Rattle.catalogue.specs.Answers.{Said, refusedWith, said, totals, saidClosing, saidReading, saidAsked}
+use Rattle.catalogue.specs.Call.{perform, judgeAct, judgeCommit, judgeObject, callOf, commitOf, openOf, traceOf, closeOf, readingOf, askedOf}
+use Rattle.promises.specs.Rows.{NoRoot}
+use Rattle.promises.specs.Calls.{open-call, close-call, calling}
+use Rattle.promises.proofs.Calling.{Refusing, refused-leaves}
+use Rattle.promises.proofs.Refusals.{open-first, close-first}
+
+-- A REFUSED RECOVERY LEAVES ZEROS and keeps nothing
+pub refused-recovery : (log : List ℕ) (len : ℕ) → (recoverOf log len) .verdict ≢ Accepted → ((recoverOf log len) .image ≡ replicate len 0) × ((recoverOf log len) .kept ≡ 0)
+unfolding recoverOf answer
+refused-recovery log len ne = by (feedAll len (reader early [] 0) log .stand) (feedAll len (reader early [] 0) log .part) ne
+  where
+    by : (s : Stand) (t : List ℕ) → (close len s t) .verdict ≢ Accepted → ((close len s t) .image ≡ replicate len 0) × ((close len s t) .kept ≡ 0)
+    by early t ne = (refl, refl)
+    by (stopped k l) t ne = (refl, refl)
+    by (going h y w n kept) t ne = step (tailOk t) ne
+      where
+        step : (b : Bool) → (cond b (recovery kept y) (refusal len 4 (n + 1))) .verdict ≢ Accepted
+            → ((cond b (recovery kept y) (refusal len 4 (n + 1))) .image ≡ replicate len 0) × ((cond b (recovery kept y) (refusal len 4 (n + 1))) .kept ≡ 0)
+        step true ne = absurd (ne refl)
+        step false ne = (refl, refl)
+
+-- every call but format and recover refuses with 1
+abbrev unsound : Refusal
+unsound = record { number = 1; extra = 0 }
+
+pub record Refuses-1 (img : Image) : Type 0 where
+  pub commit : (ops : List Operation) (n : ℕ) (log : List ℕ) (at : ℕ) → said ((commitOf img ops n log at) .answer) ≡ refusedWith 0 unsound
+  pub open-up : (log : List ℕ) (at : ℕ) → said ((openOf img log at) .answer) ≡ refusedWith 0 unsound
+  pub trace : (p : Partition) (log : List ℕ) (at : ℕ) → said ((traceOf img p log at) .answer) ≡ refusedWith 0 unsound
+  pub close : (log : List ℕ) (at : ℕ) → saidClosing ((closeOf img log at) .answer) ≡ refusedWith (totals 0 0 0) unsound
+  pub read : (n : Name) → saidReading (readingOf img n) ≡ refusedWith blankRecord unsound
+  pub ask : (n : Name) → saidAsked (askedOf img n) ≡ refusedWith false unsound
+
+unsound-refused : (img : Image) → isSound img ≡ false → Refuses-1 img
+unfolding commitOf callOf closeOf readingOf askedOf judgeCommit judgeAct judgeObject check perform
+unsound-refused img e =
+    record {
+      commit = λ ops n log at. rw e;
+      open-up = λ log at. rw e;
+      trace = λ p log at. rw e;
+      close = λ log at. rw e;
+      read = λ n. rw e;
+      ask = λ n. rw e;
+    }
+
+-- ZEROS ARE REFUSED WITH 1
+pub zeros-refused : (n : ℕ) → Refuses-1 (replicate n 0)
+zeros-refused n = unsound-refused (replicate n 0) (zeros-unsound n)
+
+-- WITH NO ROOT IN USE no phase opens or closes
+numbered : {A : Type 0} (s : Said A) (z : A) (n e : ℕ) → n ≢ 0 → s ≡ refusedWith z (record { number = n; extra = e }) → s .number ≢ 0
+numbered s z n e ne q m = ne (sym (ap (λ (t : Said _). t .number) q) ∙ m)
+
+module _ (img : Image) (log : List ℕ) (at : ℕ) (none : NoRoot img) where
+  pub rootless-open : ((calling img open-call log at) .number ≢ 0) × Refusing img log (calling img open-call log at)
+  rootless-open = let ne = refused in (ne, refused-leaves img open-call log at ne)
+    where
+      refused : (calling img open-call log at) .number ≢ 0
+      refused =
+          ⊎-elim (λ x. numbered _ 0 1 0 (λ z. omega arith) (x .1))
+          (λ x. ⊎-elim (λ y. numbered _ 0 11 0 (λ z. omega arith) (y .1))
+          (λ y. ⊎-elim (λ w. numbered _ 0 12 0 (λ z. omega arith) (w .1)) (λ w. absurd (w .0 none)) (y .1)) (x .1)) (open-first img log at)
+
+  pub rootless-close : ((calling img close-call log at) .number ≢ 0) × Refusing img log (calling img close-call log at)
+  rootless-close = let ne = refused in (ne, refused-leaves img close-call log at ne)
+    where
+      refused : (calling img close-call log at) .number ≢ 0
+      refused =
+          ⊎-elim (λ x. numbered _ _ 1 0 (λ z. omega arith) (x .1))
+          (λ x. ⊎-elim (λ y. numbered _ _ 10 0 (λ z. omega arith) (y .1))
+          (λ y. ⊎-elim (λ w. numbered _ _ 12 0 (λ z. omega arith) (w .1)) (λ w. absurd (w .0 none)) (y .1)) (x .1)) (close-first img log at)

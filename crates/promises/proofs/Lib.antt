@@ -1,0 +1,10 @@
+pub mod Listing
+pub mod Conditions
+pub mod Refusals
+pub mod Leaving
+pub mod Calling
+pub mod Books
+pub mod Recoveries
+pub mod Reached
+pub mod Phases
+pub mod Table

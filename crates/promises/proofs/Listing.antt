@@ -1,0 +1,136 @@
+-- How a row of checks is a list of the table: the first check that fails is the first row whose condition holds; and a list says one thing only.
+-- Assumes nothing.
+use Prim.Native.Nat.{ℕ, _+_, _≤_}
+use mathlib.Core.Path.{_≡_, refl, sym, ap, _∙_}
+use mathlib.Core.Bool.{Bool, true, false, cond}
+use mathlib.Core.List.{List, [], _∷_, _++_}
+use mathlib.Core.Logic.{_⊎_, inl, inr, ⊎-elim}
+use lib.Dec.{leb}
+use lib.ListN.{length}
+use borrow.Author.Tests.{leb-true, le-leb}
+use Rattle.kinds.specs.Answers.{refuse}
+use Rattle.kinds.proofs.Answers.{unlike}
+use Rattle.kinds.specs.declared.Refusal.{Refusal}
+use Rattle.kinds.specs.declared.Verdict.{Verdict}
+use Rattle.kinds.specs.declared.Verdict.the-variants.{Accepted, Refused}
+use Rattle.model.specs.Image.{Image}
+use Rattle.model.specs.Judge.{check, andThen}
+use Rattle.writer.specs.Write.{splice}
+use Rattle.catalogue.specs.Answers.{Said, accepted, refusedWith}
+use Rattle.catalogue.specs.Call.{Outcome, noRoom, outcome, perform}
+use Rattle.promises.specs.Rows.{Row, given, telling, First}
+
+-- a test that fails exactly where a condition holds
+pub record Tests (b : Bool) (C : Type 0) : Type 0 where
+  pub fails : b ≡ false → C
+  pub passes : b ≡ true → C → ⊥
+
+-- what a list says of a verdict
+unfoldable pub Found : List Row → Verdict → Type 0
+Found [] u = u ≡ Accepted
+Found (given n e C ∷ rows) u = (C × (u ≡ refuse n e)) ⊎ ((C → ⊥) × Found rows u)
+Found (telling n E ∷ rows) u = ((e : ℕ) × E e × (u ≡ refuse n e)) ⊎ (((e : ℕ) → E e → ⊥) × Found rows u)
+
+pub found-none : Found [] Accepted
+unfolding Found
+found-none = refl
+
+-- a condition that holds, and one that does not
+pub found-here : (n e : ℕ) (C : Type 0) (rows : List Row) → C → Found (given n e C ∷ rows) (refuse n e)
+unfolding Found
+found-here n e C rows c = inl (c, refl)
+
+pub found-later : (n e : ℕ) (C : Type 0) (rows : List Row) (u : Verdict) → (C → ⊥) → Found rows u → Found (given n e C ∷ rows) u
+unfolding Found
+found-later n e C rows u c f = inr (c, f)
+
+-- one check
+pub found-check : (b : Bool) (n e : ℕ) (u : Verdict) (C : Type 0) (rows : List Row) → Tests b C → Found rows u → Found (given n e C ∷ rows) (check b n e u)
+unfolding Found check
+found-check true n e u C rows t f = inr (t .passes refl, f)
+found-check false n e u C rows t f = inl (t .fails refl, refl)
+
+-- a check that tells: of its two ways, which is known
+pub found-tell : (b : Bool) (n e : ℕ) (u : Verdict) (E : ℕ → Type 0) (rows : List Row) → (b ≡ false → E e) → (b ≡ true → (i : ℕ) → E i → ⊥) → Found rows u
+    → Found (telling n E ∷ rows) (check b n e u)
+unfolding Found check
+found-tell true n e u E rows s t f = inr (t refl, f)
+found-tell false n e u E rows s t f = inl (e, s refl, refl)
+
+-- one list, then another
+pub found-then : (rows more : List Row) (u w : Verdict) → Found rows u → Found more w → Found (rows ++ more) (andThen u w)
+unfolding Found andThen
+found-then [] more u w f g = rw f g
+found-then (given n e C ∷ rows) more u w f g = ⊎-elim (λ x. inl (x .0, rw (x .1))) (λ x. inr (x .0, found-then rows more u w (x .1) g)) f
+found-then (telling n E ∷ rows) more u w f g =
+    ⊎-elim (λ x. inl (x .0, x .1, rw (x .2))) (λ x. inr (x .0, found-then rows more u w (x .1) g)) f
+
+-- a refusal by a list stays, whatever comes after it
+pub found-stays : (rows more : List Row) (r : Refusal) → Found rows (Refused r) → Found (rows ++ more) (Refused r)
+unfolding Found
+found-stays [] more r f = unlike f
+found-stays (given n e C ∷ rows) more r f = ⊎-elim (λ x. inl x) (λ x. inr (x .0, found-stays rows more r (x .1))) f
+found-stays (telling n E ∷ rows) more r f = ⊎-elim (λ x. inl x) (λ x. inr (x .0, found-stays rows more r (x .1))) f
+
+-- what an answer says, by its verdict
+abbrev pub telled : {A : Type 0} → A → A → Verdict → Said A
+telled z v Accepted = accepted v
+telled z v (Refused r) = refusedWith z r
+
+-- conditions on an extra answer that leave it no choice
+abbrev pub Settled : List Row → Type 0
+Settled [] = Unit {0}
+Settled (given n e C ∷ rows) = Settled rows
+Settled (telling n E ∷ rows) = ((p q : ℕ) → E p → E q → p ≡ q) × Settled rows
+
+module _ {A : Type 0} (z v : A) where
+  pub first-found : (rows : List Row) (u : Verdict) → Found rows u → First z v rows (telled z v u)
+  unfolding Found
+  first-found [] u f = ap (telled z v) f
+  first-found (given n e C ∷ rows) u f = ⊎-elim (λ x. inl (x .0, ap (telled z v) (x .1))) (λ x. inr (x .0, first-found rows u (x .1))) f
+  first-found (telling n E ∷ rows) u f = ⊎-elim (λ x. inl (x .0, x .1, ap (telled z v) (x .2))) (λ x. inr (x .0, first-found rows u (x .1))) f
+
+  -- A LIST SAYS ONE THING ONLY
+  pub exactly : (rows : List Row) → Settled rows → (s t : Said A) → First z v rows s → First z v rows t → s ≡ t
+  exactly [] d s t f g = f ∙ sym g
+  exactly (given n e C ∷ rows) d s t f g =
+      ⊎-elim (λ x. ⊎-elim (λ y. x .1 ∙ sym (y .1)) (λ y. absurd (y .0 (x .0))) g)
+      (λ x. ⊎-elim (λ y. absurd (x .0 (y .0))) (λ y. exactly rows d s t (x .1) (y .1)) g) f
+  exactly (telling n E ∷ rows) d s t f g =
+      ⊎-elim
+      (λ x. ⊎-elim (λ y. x .2 ∙ ap (λ (e : ℕ). refusedWith z (record { number = n; extra = e })) (d .0 (x .0) (y .0) (x .1) (y .1)) ∙ sym (y .2)) (λ y. absurd (y .0 (x .0) (x .1))) g)
+      (λ x. ⊎-elim (λ y. absurd (x .0 (y .0) (y .1))) (λ y. exactly rows (d .1) s t (x .1) (y .1)) g) f
+
+-- the verdict of a logged call: its own list, then 17
+abbrev pub fully : Verdict → List ℕ → List ℕ → ℕ → Verdict
+fully u bytes log at = andThen u (check (leb (at + length bytes) (length log)) 17 0 Accepted)
+
+pub fully-done : (u : Verdict) (bytes log : List ℕ) (at : ℕ) → u ≡ Accepted → at + length bytes ≤ length log → fully u bytes log at ≡ Accepted
+unfolding andThen check
+fully-done u bytes log at a l = rw (a, le-leb _ _ l)
+
+-- the two ways of a logged call
+pub data Performed {A : Type 0} (done : ℕ → A) (refused : Refusal → A) (u : Verdict) (bytes : List ℕ) (next img : Image) (log : List ℕ) (at : ℕ) : Outcome A → Type 0 where
+  did : u ≡ Accepted → at + length bytes ≤ length log → Performed done refused u bytes next img log at (outcome (done (length bytes)) next (splice log at bytes))
+  left : (r : Refusal) → fully u bytes log at ≡ Refused r → Performed done refused u bytes next img log at (outcome (refused r) img log)
+
+pub performed : {A : Type 0} (done : ℕ → A) (refused : Refusal → A) (u : Verdict) (bytes : List ℕ) (next img : Image) (log : List ℕ) (at : ℕ)
+    → Performed done refused u bytes next img log at (perform done refused u bytes next img log at)
+unfolding perform andThen check
+performed done refused (Refused r) bytes next img log at = left r refl
+performed {A} done refused Accepted bytes next img log at = go (leb (at + length bytes) (length log)) refl
+  where
+    go : (b : Bool) → leb (at + length bytes) (length log) ≡ b
+        → Performed done refused Accepted bytes next img log at (cond b (outcome (done (length bytes)) next (splice log at bytes)) (outcome (refused noRoom) img log))
+    go true e = did refl (leb-true _ _ e)
+    go false e = left noRoom (rw e)
+
+-- what a logged call says, where its two forms of answer say this
+pub said-perform : {A B : Type 0} (say : B → Said A) (z v : A) (done : ℕ → B) (refused : Refusal → B) (u : Verdict) (bytes : List ℕ) (next img : Image) (log : List ℕ) (at : ℕ)
+    → say (done (length bytes)) ≡ accepted v → ((r : Refusal) → say (refused r) ≡ refusedWith z r)
+    → say ((perform done refused u bytes next img log at) .answer) ≡ telled z v (fully u bytes log at)
+said-perform {A} {B} say z v done refused u bytes next img log at d n = go (performed done refused u bytes next img log at)
+  where
+    go : {o : Outcome B} → Performed done refused u bytes next img log at o → say (o .answer) ≡ telled z v (fully u bytes log at)
+    go (did a l) = d ∙ sym (ap (telled z v) (fully-done u bytes log at a l))
+    go (left r e) = n r ∙ sym (ap (telled z v) e)

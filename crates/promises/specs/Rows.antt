@@ -1,0 +1,150 @@
+-- The table of refusals: for each call its list in the paper's order, each number beside its condition, and what a list says.
+use Prim.Native.Nat.{ℕ, _+_, _*_, _≤_, _<_}
+use mathlib.Core.List.{List, [], _∷_, _++_}
+use mathlib.Core.Path.{_≡_}
+use mathlib.Core.Logic.{_≢_, _⊎_}
+use lib.ListN.{length, take}
+use Rattle.kinds.specs.Names.{mostPartitions, mostSlots, mostOperations, roots, fields}
+use Rattle.kinds.specs.declared.Name.{Name}
+use Rattle.kinds.specs.declared.Partition.{Partition}
+use Rattle.kinds.specs.declared.Target.{Target}
+use Rattle.kinds.specs.declared.Target.the-variants.{Nothing, Object}
+use Rattle.kinds.specs.declared.Operation.{Operation}
+use Rattle.kinds.specs.declared.Operation.the-variants.{New, Set, Val, Root}
+use Rattle.model.specs.Image.{Image, Key, root, flag, state, field, partitions, slots, phase, count, allowance, anchors, get, lengthOf, size, place, placeOf}
+use Rattle.model.specs.Acts.{commit, opening, closing, trace, perform}
+use Rattle.model.specs.Sound.{Sound}
+use Rattle.writer.specs.Record.{recordOf, headingOf}
+use Rattle.catalogue.specs.Answers.{Said, accepted, refusedWith}
+
+-- a row: the number, its extra answer and its condition; or the number and a condition on its extra answer
+pub data Row : Type 1 where
+  given : ℕ → ℕ → Type 0 → Row
+  telling : ℕ → (ℕ → Type 0) → Row
+
+-- What a list says: the number and the extra answer of the first row whose condition holds, and nothing beside (`z`); where none holds,
+-- accepted, with the values `v`.
+abbrev pub First : {A : Type 0} → A → A → List Row → Said A → Type 0
+First z v [] s = s ≡ accepted v
+First z v (given n e C ∷ rows) s = (C × (s ≡ refusedWith z (record { number = n; extra = e }))) ⊎ ((C → ⊥) × First z v rows s)
+First z v (telling n E ∷ rows) s =
+    ((e : ℕ) × E e × (s ≡ refusedWith z (record { number = n; extra = e }))) ⊎ (((e : ℕ) → E e → ⊥) × First z v rows s)
+
+-- 1: image not sound
+abbrev pub Unsound : Image → Type 0
+Unsound img = Sound img → ⊥
+
+-- 2: P or S out of range, or length wrong
+pub data WrongSize (P S n : ℕ) : Type 0 where
+  no-partition : P ≡ 0 → WrongSize P S n
+  many-partitions : mostPartitions < P → WrongSize P S n
+  no-slot : S ≡ 0 → WrongSize P S n
+  many-slots : mostSlots < S → WrongSize P S n
+  wrong-length : n ≢ size P S → WrongSize P S n
+
+-- 6: 0 or over 32 operations
+abbrev pub WrongCount : ℕ → Type 0
+WrongCount n = (n ≡ 0) ⊎ (mostOperations < n)
+
+-- 7: partition, slot, field or root number too large
+abbrev pub TooLarge : ℕ → ℕ → Name → Type 0
+TooLarge P S n = (P ≤ n .partition .0) ⊎ (S ≤ n .slot .0)
+
+abbrev pub TargetTooLarge : ℕ → ℕ → Target → Type 0
+TargetTooLarge P S Nothing = ⊥
+TargetTooLarge P S (Object q) = TooLarge P S q
+
+-- 8 and 9: slot in use, object not in use
+abbrev pub InUse : ℕ → Image → Name → Type 0
+InUse S img n = get img (state (place S n)) ≢ 0
+
+abbrev pub NotInUse : ℕ → Image → Name → Type 0
+NotInUse S img n = get img (state (place S n)) ≡ 0
+
+abbrev pub TargetNotInUse : ℕ → Image → Target → Type 0
+TargetNotInUse S img Nothing = ⊥
+TargetNotInUse S img (Object q) = NotInUse S img q
+
+-- 10 and 11: phase not open, already open
+abbrev pub NotOpen : Image → Type 0
+NotOpen img = get img phase ≢ 1
+
+abbrev pub AlreadyOpen : Image → Type 0
+AlreadyOpen img = get img phase ≡ 1
+
+-- 12: no root in use
+abbrev pub NoRoot : Image → Type 0
+NoRoot img = (r : ℕ) → r < roots → get img (root r) ≡ 0
+
+-- 13: partition to trace is clean
+abbrev pub Clean : Image → ℕ → Type 0
+Clean img p = get img (flag p) ≢ 0
+
+-- 14: a partition is not clean, and p is the lowest
+pub record Lowest (img : Image) (p : ℕ) : Type 0 where
+  pub within : p < get img partitions
+  pub not-clean : get img (flag p) ≡ 0
+  pub clean-below : (q : ℕ) → q < p → Clean img q
+
+-- 15: count equals allowance
+abbrev pub Spent : Image → Type 0
+Spent img = get img count ≡ get img allowance
+
+-- 16: a root or marked object refers to an unmarked one
+pub data Live (img : Image) : Key → Type 0 where
+  a-root : {r : ℕ} → r < anchors → Live img (root r)
+  a-field : {j k : ℕ} → j < get img partitions * get img slots → get img (state j) ≡ 2 → k < fields → Live img (field j k)
+
+pub record Astray (img : Image) : Type 0 where
+  pub holder : Key
+  pub live : Live img holder
+  pub some : get img holder ≢ 0
+  pub unmarked : get img (state (placeOf (get img slots) (get img holder))) ≢ 2
+
+-- 17: record doesn't fit from the named place, or the place is past the end
+abbrev pub NoRoom : List ℕ → ℕ → List ℕ → Type 0
+NoRoom bytes at log = length log < at + length bytes
+
+-- FORMAT 2, 17
+abbrev pub formatRows : Image → ℕ → ℕ → List ℕ → ℕ → List Row
+formatRows img P S log at = given 2 0 (WrongSize P S (lengthOf img)) ∷ given 17 0 (NoRoom (headingOf P S) at log) ∷ []
+
+-- one operation at position e: 7 for all its numbers, then 8 or 9, set's holder before its target
+abbrev pub operationRows : ℕ → ℕ → Image → ℕ → Operation → List Row
+operationRows P S img e (New n v) = given 7 e (TooLarge P S n) ∷ given 8 e (InUse S img n) ∷ []
+operationRows P S img e (Set n k t) =
+    given 7 e (TooLarge P S n ⊎ ((fields ≤ k) ⊎ TargetTooLarge P S t)) ∷ given 9 e (NotInUse S img n) ∷ given 9 e (TargetNotInUse S img t) ∷ []
+operationRows P S img e (Val n v) = given 7 e (TooLarge P S n) ∷ given 9 e (NotInUse S img n) ∷ []
+operationRows P S img e (Root r t) = given 7 e ((roots ≤ r) ⊎ TargetTooLarge P S t) ∷ given 9 e (TargetNotInUse S img t) ∷ []
+
+-- each operation in turn, on the image after the earlier ones
+abbrev pub operationsRows : ℕ → ℕ → Image → ℕ → List Operation → List Row
+operationsRows P S img e [] = []
+operationsRows P S img e (o ∷ os) = operationRows P S img e o ++ operationsRows P S (perform S img o) (e + 1) os
+
+-- COMMIT 1, 6, each operation in turn, 17: the first n of 32 operations
+abbrev pub commitRows : Image → List Operation → ℕ → List ℕ → ℕ → List Row
+commitRows img ops n log at =
+    given 1 0 (Unsound img) ∷ given 6 0 (WrongCount n) ∷
+    (operationsRows (get img partitions) (get img slots) img 1 (take n ops) ++ (given 17 0 (NoRoom (recordOf (commit (take n ops))) at log) ∷ []))
+
+-- OPEN 1, 11, 12, 17
+abbrev pub openRows : Image → List ℕ → ℕ → List Row
+openRows img log at = given 1 0 (Unsound img) ∷ given 11 0 (AlreadyOpen img) ∷ given 12 0 (NoRoot img) ∷ given 17 0 (NoRoom (recordOf opening) at log) ∷ []
+
+-- TRACE 1, 10, 7, 13, 15, 17
+abbrev pub traceRows : Image → Partition → List ℕ → ℕ → List Row
+traceRows img p log at =
+    given 1 0 (Unsound img) ∷ given 10 0 (NotOpen img) ∷ given 7 0 (get img partitions ≤ p .0) ∷ given 13 0 (Clean img (p .0)) ∷
+    given 15 0 (Spent img) ∷ given 17 0 (NoRoom (recordOf (trace (p .0))) at log) ∷ []
+
+-- CLOSE 1, 10, 12, 14, 16, 17: with 14 the lowest partition that is not clean
+abbrev pub closeRows : Image → List ℕ → ℕ → List Row
+closeRows img log at =
+    given 1 0 (Unsound img) ∷ given 10 0 (NotOpen img) ∷ given 12 0 (NoRoot img) ∷ telling 14 (Lowest img) ∷ given 16 0 (Astray img) ∷
+    given 17 0 (NoRoom (recordOf closing) at log) ∷ []
+
+-- READ and ASK 1, 7, 9
+abbrev pub objectRows : Image → Name → List Row
+objectRows img n =
+    given 1 0 (Unsound img) ∷ given 7 0 (TooLarge (get img partitions) (get img slots) n) ∷ given 9 0 (NotInUse (get img slots) img n) ∷ []
