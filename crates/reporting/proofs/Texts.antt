@@ -1,12 +1,12 @@
 -- Laws of the report's lines: how long they are, and how they are put one after the other.
 -- Assumes nothing.
-use Prim.Native.Nat.{ℕ, zero, suc, _+_, _*_, _/_, _%_, _^_, _≤_, _<_}
+use Prim.Native.Nat.{ℕ, zero, suc, _+_, _*_, _/_, _%_, _≤_, _<_}
 use native.Mathlib.Omega.{arith}
 use native.Mathlib.Decide.{decLt}
 use native.Mathlib.Nat.{div-lt-iff-lt-mul, mod-lt, mul-le-mul-right}
 use native.Mathlib.Numerals.{add-one}
-use mathlib.Core.Path.{_≡_, refl, sym, ap, subst, _∙_}
-use mathlib.Core.Bool.{Bool, true, false, cond, not}
+use mathlib.Core.Path.{_≡_, ap, subst, _∙_}
+use mathlib.Core.Bool.{Bool, true, false, cond}
 use mathlib.Core.Logic.{_≢_}
 use mathlib.Core.List.{List, [], _∷_, _++_}
 use lib.ListN.{length, set, take, getD, length-append}
@@ -16,9 +16,9 @@ use Rattle.lines.proofs.Digits.{decimal-length, decimal-length-small, decimal-l
 use Rattle.lines.specs.Decimal.{decimal}
 use Rattle.lines.specs.Print.{Put}
 use Rattle.model.specs.Acts.{used}
-use Rattle.model.specs.Image.{Image, payload, phase, addr, get}
-use Rattle.writer.proofs.Puts.{put-none, put-byte, put-then, put-length}
-use Rattle.reporting.specs.Report.{room, objectWord, spaced, ending, row, objectAt, objects, refusedText, keptText}
+use Rattle.model.specs.Image.{Image, payload, addr, get}
+use Rattle.writer.proofs.Puts.{put-byte, put-then, put-length}
+use Rattle.reporting.specs.Report.{objectWord, spaced, row, objectAt, objects}
 
 -- a number has at most ten digits, and one below 100 at most two
 pub spaced-length : (n : ℕ) → length (spaced n) ≤ 11

@@ -28,6 +28,10 @@ mostBytes = 32768
 abbrev pub room : ℕ
 room = 32768
 
+-- the most bytes of an object's line: its word, two digits each of partition and slot, ten of payload, three spaces, the line end
+abbrev pub objectBytes : ℕ
+objectBytes = 24
+
 -- a n s w e r
 abbrev pub answerWord : List ℕ
 answerWord = 97 ∷ 110 ∷ 115 ∷ 119 ∷ 101 ∷ 114 ∷ []
@@ -82,6 +86,7 @@ refusedText n k = row answerWord (n ∷ []) ++ row lineWord (k ∷ [])
 unfoldable pub keptText : ℕ → ℕ → ℕ → Image → List ℕ
 keptText P S k y = row answerWord (0 ∷ []) ++ (row keptWord (k ∷ []) ++ (row phaseWord (get y phase ∷ []) ++ objects S y (P * S)))
 
+-- by the verdict
 abbrev pub told : ℕ → ℕ → Verdict → ℕ → Image → List ℕ
 told P S Accepted k y = keptText P S k y
 told P S (Refused r) k y = refusedText (r .number) (r .extra)
@@ -94,9 +99,11 @@ shown P S r = told P S (r .verdict) (r .kept) (r .image)
 abbrev pub nothingAsked : Asked
 nothingAsked = record { partitions = 0; slots = 0; words = 0 }
 
+-- a heading's P and S
 unfoldable pub heapAsked : ℕ → ℕ → Asked
 heapAsked P S = cond (inLimits P S) (record { partitions = P; slots = S; words = size P S }) nothingAsked
 
+-- only a heading asks
 abbrev pub askedBy : Line → Asked
 askedBy (Heading e P S) = heapAsked P S
 askedBy (Operation o) = nothingAsked
@@ -106,10 +113,12 @@ askedBy (Trace p) = nothingAsked
 askedBy Close = nothingAsked
 askedBy Bad = nothingAsked
 
+-- a log without a complete line asks for nothing
 abbrev pub askedAt : Step → Asked
 askedAt (ALine l next) = askedBy l
 askedAt (Tail n) = nothingAsked
 
+-- a log asks for what its first line does
 unfoldable pub askedOf : List ℕ → Asked
 askedOf log = askedAt (stepOf log 0)
 

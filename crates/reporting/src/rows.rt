@@ -1,11 +1,11 @@
 // The report's lines, put one after the other into the lent bytes; each function answers the place after what it put.
-ghost use mathlib.Core.Path.{_≡_};
 ghost use mathlib.Core.List.{[], _∷_};
-ghost use Prim.Native.Nat.{_+_, _*_, _<_, _≤_, _^_};
+ghost use Prim.Native.Nat.{_+_, _*_, _<_, _≤_};
 ghost use lib.ListN.{length};
 ghost use Rattle.lines.specs.Print.{Put};
-ghost use Rattle.model.specs.Image.{addr, state, payload};
-ghost use Rattle.reporting.specs.Report.{room, toolongWord, objectWord, spaced, ending, row, objectAt, objects, refusedText, keptText};
+ghost use Rattle.kinds.specs.Names.{mostPartitions, mostSlots};
+ghost use Rattle.model.specs.Image.{front, stride, addr, payload};
+ghost use Rattle.reporting.specs.Report.{room, objectBytes, toolongWord, objectWord, spaced, ending, row, objectAt, objects, refusedText, keptText};
 use image::FRONT;
 use image::PHASE;
 use image::STRIDE;
@@ -65,7 +65,7 @@ fn put_object(out: &mut [u8], at: usize, p: u32, s: u32, v: u32) -> usize
 
 // What is said of place j: the line of its object, or nothing where the slot is free.
 fn put_place(out: &mut [u8], at: usize, img: &[u32], s: usize, j: usize) -> usize
-    requires { ⌜ (s ≤ 64) × (j < 16 * s) × (addr (payload j) < length (now img)) × (at + 24 ≤ length (now out)) ⌝ }
+    requires { ⌜ (s ≤ mostSlots) × (j < mostPartitions * s) × (addr (payload j) < length (now img)) × (at + objectBytes ≤ length (now out)) ⌝ }
     ensures { λ r. ⌜ Put (now (out .entry)) (now (out .exit)) at (objectAt s (now (img .entry)) j) r ⌝ }
 {
     let state = FRONT + STRIDE * j;
@@ -77,7 +77,7 @@ fn put_place(out: &mut [u8], at: usize, img: &[u32], s: usize, j: usize) -> usiz
 
 // The objects of the first n places.
 fn put_objects(out: &mut [u8], at: usize, img: &[u32], s: usize, n: usize) -> usize
-    requires { ⌜ (s ≤ 64) × (n ≤ 16 * s) × (37 + 6 * n ≤ length (now img)) × (at + 24 * n ≤ length (now out)) ⌝ }
+    requires { ⌜ (s ≤ mostSlots) × (n ≤ mostPartitions * s) × (front + stride * n ≤ length (now img)) × (at + objectBytes * n ≤ length (now out)) ⌝ }
     ensures { λ r. ⌜ Put (now (out .entry)) (now (out .exit)) at (objects s (now (img .entry)) n) r ⌝ }
 {
     let mut next = at;
@@ -108,7 +108,7 @@ pub(crate) fn put_refused(out: &mut [u8], n: u32, k: u32) -> usize
 
 // The report of an accepted log: k is the kept length, in an image of p partitions of s slots.
 pub(crate) fn put_kept(out: &mut [u8], img: &[u32], p: usize, s: usize, k: u32) -> usize
-    requires { ⌜ (p ≤ 16) × (s ≤ 64) × (37 + 6 * (p * s) ≤ length (now img)) × (room ≤ length (now out)) ⌝ }
+    requires { ⌜ (p ≤ mostPartitions) × (s ≤ mostSlots) × (front + stride * (p * s) ≤ length (now img)) × (room ≤ length (now out)) ⌝ }
     ensures { λ r. ⌜ Put (now (out .entry)) (now (out .exit)) 0 (keptText p s k (now (img .entry))) r ⌝ }
 {
     let a = put_row(&mut *out, 0, b"answer", 0);
