@@ -1,0 +1,31 @@
+-- `collector::led` meets its contract. Assumes nothing.
+use Rattle.collector.proofs.Searches.{led-root, led-field, led-so}
+use mathlib.Core.Path.{sym}
+use borrow.Author.Needs.{needs}
+use Rattle.collector.proofs.led.Statement.{statement}
+use Rattle.collector.proofs.led.Tie as tie
+
+first-requires : tie.Need-first-requires
+first-requires c κs = search needs
+
+returns : tie.Need-returns
+returns c = sym (led-root _ _ _ (rw (c .before .first .ensures) at (c .if1 .taken)))
+
+mul-n : tie.Need-mul-n
+mul-n c = search needs
+
+mul-n-2 : tie.Need-mul-n-2
+mul-n-2 c = search needs
+
+first-requires-2 : tie.Need-first-requires-2
+first-requires-2 c κs = search needs
+
+returns-2 : tie.Need-returns-2
+returns-2 c = sym (led-field _ _ _ (rw (c .before .first2 .ensures) at (c .if2 .taken)))
+
+returns-3 : tie.Need-returns-3
+returns-3 c = sym (led-so _ _ _ (rw (c .before .before .before .first .ensures) at (c .before .before .if1 .left)) (rw (c .before .first2 .ensures) at (c .if2 .left)))
+
+pub led-spec : {M : Type 1} → statement M
+led-spec =
+    tie.close (tie.spec first-requires returns mul-n mul-n-2 first-requires-2 returns-2 returns-3)

@@ -1,0 +1,21 @@
+-- `collector::rooted` meets its contract. Assumes nothing.
+use Rattle.collector.proofs.Searches.{rooted-so, rooted-not}
+use mathlib.Core.Path.{sym}
+use borrow.Author.Needs.{needs}
+use Rattle.collector.proofs.rooted.Statement.{statement}
+use Rattle.collector.proofs.rooted.Tie as tie
+
+cast-n : tie.Need-cast-n
+cast-n c = search needs
+
+first-requires : tie.Need-first-requires
+first-requires c κs = search needs
+
+returns : tie.Need-returns
+returns c = sym (rooted-so _ _ (rw (c .before .first .ensures) at (c .if1 .taken)))
+
+returns-2 : tie.Need-returns-2
+returns-2 c = sym (rooted-not _ _ (rw (c .before .first .ensures) at (c .if1 .left)))
+
+pub rooted-spec : {M : Type 1} → statement M
+rooted-spec = tie.close (tie.spec cast-n first-requires returns returns-2)

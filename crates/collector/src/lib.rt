@@ -1,0 +1,401 @@
+// Open, trace and close as code. Each has a judge that leaves the image alone and an act that changes it, and each is proved equal to
+// the model's definition of the same act (model/specs/Judge.antt and Acts.antt). The judges' loops are one search for the first that
+// meets a test (specs/Searches.antt), the acts' loops one sweep (specs/Sweeps.antt); what a search and a sweep come to is proved in
+// proofs/Searches.antt and proofs/Sweeps.antt. P and S are handed in as p and s; `Within` keeps every reference in range.
+ghost use Prim.Native.Nat.{ℕ, _*_, _+_, _<_, _≤_};
+ghost use mathlib.Core.Path.{_≡_};
+ghost use mathlib.Core.Logic.{_≢_};
+ghost use mathlib.Core.Bool.{false};
+ghost use lib.ListN.{length};
+ghost use Rattle.kinds.specs.Names.{fields};
+ghost use Rattle.model.specs.Image.{count, get, placeOf, front, stride};
+ghost use Rattle.model.specs.Acts.{Act, opening, closing, trace, unmarked, clear, settle, openUp, inside, traceOne, closeUp};
+ghost use Rattle.model.specs.Judge.{judge, rooted, led};
+ghost use Rattle.loops.specs.Loop.{each, first};
+ghost use Rattle.image.specs.Within.{Within};
+ghost use Rattle.collector.specs.Searches.{astray, meets, reach};
+ghost use Rattle.collector.specs.Sweeps.{wanted, passOver, followAt, stepOf, Reaches, closedOf};
+
+// What the judges look for: a root in use, a partition that is not clean, and a root or a field of a marked object that leads to an
+// unmarked one.
+pub enum Sought {
+    Rooted,
+    Unclean,
+    RootAstray,
+    FieldAstray,
+}
+
+// What a sweep does at each number: all partitions become not clean, what roots name is marked, places are settled, or a partition's
+// fields are followed, to targets within it or outside.
+pub enum Sweep {
+    Flags,
+    Roots,
+    Slots,
+    Fields(kinds::Partition, bool),
+}
+
+// What close answers: the traces counted, and how many objects it freed.
+pub struct Closed {
+    pub count: u32,
+    pub freed: usize,
+}
+
+// The fields of an object.
+const FIELDS: usize = kinds::Field::LIMIT as usize;
+
+// A reference word leads to an unmarked object.
+fn astray(img: &[u32], p: usize, s: usize, w: u32) -> bool
+    requires { ⌜ Within p s (now img) ⌝ }
+    requires { ⌜ (w ≢ 0 → placeOf s w < p * s) ⌝ }
+    ensures { λ r. ⌜ r ≡ astray s (now (img .entry)) w ⌝ }
+{
+    if w == 0 {
+        return false;
+    }
+    let j = image::place_of(w, s);
+    if img[image::FRONT + image::STRIDE * j] == 2 {
+        return false;
+    }
+    true
+}
+
+// The i-th root, partition or field is one that a judge looks for.
+fn meets(img: &[u32], p: usize, s: usize, t: Sought, i: usize) -> bool
+    requires { ⌜ Within p s (now img) ⌝ }
+    requires { ⌜ i < reach p s t ⌝ }
+    ensures { λ r. ⌜ r ≡ meets s (now (img .entry)) t i ⌝ }
+{
+    match t {
+        Sought::Rooted => {
+            if img[image::ROOT + i] == 0 {
+                return false;
+            }
+            true
+        }
+        Sought::Unclean => {
+            if img[image::FLAG + i] == 0 {
+                return true;
+            }
+            false
+        }
+        Sought::RootAstray => astray(img, p, s, img[image::ROOT + i]),
+        Sought::FieldAstray => {
+            let j = i / FIELDS;
+            if img[image::FRONT + image::STRIDE * j] != 2 {
+                return false;
+            }
+            astray(
+                img,
+                p,
+                s,
+                img[image::FRONT + image::STRIDE * j + 2 + i % FIELDS],
+            )
+        }
+    }
+}
+
+// The first of n that a judge looks for, or n.
+fn first(img: &[u32], p: usize, s: usize, t: Sought, n: usize) -> usize
+    requires { ⌜ Within p s (now img) ⌝ }
+    requires { ⌜ n ≤ reach p s t ⌝ }
+    ensures { λ r. ⌜ r ≡ first n 0 (meets s (now (img .entry)) t) ⌝ }
+{
+    let mut i: usize = 0;
+    while i < n {
+        let met = meets(img, p, s, t, i);
+        if met {
+            return i;
+        }
+        i += 1;
+    }
+    n
+}
+
+// A root is in use.
+pub fn rooted(img: &[u32], p: usize, s: usize) -> bool
+    requires { ⌜ Within p s (now img) ⌝ }
+    ensures { λ r. ⌜ r ≡ rooted (now (img .entry)) ⌝ }
+{
+    let n = kinds::Target::ROOTS as usize;
+    let r = first(img, p, s, Sought::Rooted, n);
+    if r < n {
+        return true;
+    }
+    false
+}
+
+// Roots and marked objects refer to marked objects only.
+fn led(img: &[u32], p: usize, s: usize) -> bool
+    requires { ⌜ Within p s (now img) ⌝ }
+    ensures { λ r. ⌜ r ≡ led p s (now (img .entry)) ⌝ }
+{
+    let r = first(img, p, s, Sought::RootAstray, image::ANCHORS);
+    if r < image::ANCHORS {
+        return false;
+    }
+    let n = p * s * FIELDS;
+    let i = first(img, p, s, Sought::FieldAstray, n);
+    if i < n {
+        return false;
+    }
+    true
+}
+
+// Open: 11, 12.
+pub fn judge_open(img: &[u32], p: usize, s: usize) -> kinds::Verdict
+    requires { ⌜ Within p s (now img) ⌝ }
+    ensures { λ r. ⌜ r ≡ judge p s (now (img .entry)) opening ⌝ }
+{
+    if img[image::PHASE] == 1 {
+        return kinds::Verdict::refuse(kinds::Refusal::OPENED, 0);
+    }
+    let r = rooted(img, p, s);
+    if !r {
+        return kinds::Verdict::refuse(kinds::Refusal::ROOTLESS, 0);
+    }
+    kinds::Verdict::Accepted
+}
+
+// Trace: 10, 7, 13, 15.
+pub fn judge_trace(img: &[u32], p: usize, s: usize, t: kinds::Partition) -> kinds::Verdict
+    requires { ⌜ Within p s (now img) ⌝ }
+    ensures { λ r. ⌜ r ≡ judge p s (now (img .entry)) (trace (t .0)) ⌝ }
+{
+    if img[image::PHASE] != 1 {
+        return kinds::Verdict::refuse(kinds::Refusal::SHUT, 0);
+    }
+    let q = t.0 as usize;
+    if p <= q {
+        return kinds::Verdict::refuse(kinds::Refusal::RANGE, 0);
+    }
+    if img[image::FLAG + q] != 0 {
+        return kinds::Verdict::refuse(kinds::Refusal::CLEAN, 0);
+    }
+    if img[image::COUNT] == img[image::ALLOWANCE] {
+        return kinds::Verdict::refuse(kinds::Refusal::SPENT, 0);
+    }
+    kinds::Verdict::Accepted
+}
+
+// Close: 10, 12, 14 with the lowest partition, 16.
+pub fn judge_close(img: &[u32], p: usize, s: usize) -> kinds::Verdict
+    requires { ⌜ Within p s (now img) ⌝ }
+    ensures { λ r. ⌜ r ≡ judge p s (now (img .entry)) closing ⌝ }
+{
+    if img[image::PHASE] != 1 {
+        return kinds::Verdict::refuse(kinds::Refusal::SHUT, 0);
+    }
+    let r = rooted(img, p, s);
+    if !r {
+        return kinds::Verdict::refuse(kinds::Refusal::ROOTLESS, 0);
+    }
+    let q = first(img, p, s, Sought::Unclean, p);
+    if q < p {
+        return kinds::Verdict::refuse(kinds::Refusal::UNCLEAN, q);
+    }
+    let l = led(img, p, s);
+    if !l {
+        return kinds::Verdict::refuse(kinds::Refusal::UNMARKED, 0);
+    }
+    kinds::Verdict::Accepted
+}
+
+// How many objects of the first n places are in use and unmarked.
+fn unmarked(img: &[u32], n: usize) -> usize
+    requires { ⌜ front + stride * n ≤ length (now img) ⌝ }
+    ensures { λ r. ⌜ r ≡ unmarked n (now (img .entry)) ⌝ }
+{
+    let mut c: usize = 0;
+    let mut j: usize = 0;
+    while j < n {
+        if img[image::FRONT + image::STRIDE * j] == 1 {
+            c += 1;
+        }
+        j += 1;
+    }
+    c
+}
+
+// Six zeros at place j.
+fn clear(img: &mut [u32], s: usize, j: usize)
+    requires { ⌜ front + stride * j + stride ≤ length (now img) ⌝ }
+    ensures { λ _. ⌜ now (img .exit) ≡ clear s (now (img .entry)) j ⌝ }
+{
+    img[image::FRONT + image::STRIDE * j] = 0;
+    img[image::FRONT + image::STRIDE * j + 1] = 0;
+    let mut k: usize = 0;
+    while k < FIELDS {
+        image::release_field(img, s, j, k);
+        k += 1;
+    }
+}
+
+// An unmarked object becomes free, a mark becomes state 1.
+fn settle(img: &mut [u32], s: usize, j: usize)
+    requires { ⌜ front + stride * j + stride ≤ length (now img) ⌝ }
+    ensures { λ _. ⌜ now (img .exit) ≡ settle s (now (img .entry)) j ⌝ }
+{
+    let x = img[image::FRONT + image::STRIDE * j];
+    if x == 1 {
+        clear(img, s, j);
+        return;
+    }
+    if x == 2 {
+        img[image::FRONT + image::STRIDE * j] = 1;
+    }
+}
+
+// A pass over partition t is to mark place j.
+fn is_wanted(s: usize, t: usize, within: bool, j: usize) -> bool
+    requires { ⌜ 0 < s ⌝ }
+    ensures { λ r. ⌜ r ≡ wanted s t within j ⌝ }
+{
+    if within {
+        if j / s == t {
+            return true;
+        }
+        return false;
+    }
+    if j / s == t {
+        return false;
+    }
+    true
+}
+
+// The i-th step of a pass over partition t: field i % 4 of slot i / 4. Where it answers false, the image is as before.
+fn follow(img: &mut [u32], p: usize, s: usize, t: kinds::Partition, within: bool, i: usize) -> bool
+    requires { ⌜ Within p s (now img) ⌝ }
+    requires { ⌜ (t .0 < p) × (i < s * fields) ⌝ }
+    ensures { λ r. ⌜ (now (img .exit) ≡ followAt s (t .0) within (now (img .entry)) i) × (r ≡ false → now (img .exit) ≡ now (img .entry)) ⌝ }
+{
+    let q = t.0 as usize;
+    let j = q * s + i / FIELDS;
+    if img[image::FRONT + image::STRIDE * j] != 2 {
+        return false;
+    }
+    let w = img[image::FRONT + image::STRIDE * j + 2 + i % FIELDS];
+    if w == 0 {
+        return false;
+    }
+    let k = image::place_of(w, s);
+    let wants = is_wanted(s, q, within, k);
+    if !wants {
+        return false;
+    }
+    if img[image::FRONT + image::STRIDE * k] != 1 {
+        return false;
+    }
+    image::mark(img, s, k);
+    true
+}
+
+// What a sweep does at i. Where it answers false, the image is as before.
+fn step(img: &mut [u32], p: usize, s: usize, what: Sweep, i: usize) -> bool
+    requires { ⌜ Within p s (now img) ⌝ }
+    requires { ⌜ Reaches p s what i ⌝ }
+    ensures { λ r. ⌜ (now (img .exit) ≡ stepOf s what (now (img .entry)) i) × (r ≡ false → now (img .exit) ≡ now (img .entry)) ⌝ }
+{
+    match what {
+        Sweep::Flags => {
+            img[image::FLAG + i] = 0;
+            true
+        }
+        Sweep::Roots => {
+            let w = img[image::ROOT + i];
+            image::mark_word(img, p, s, w);
+            true
+        }
+        Sweep::Slots => {
+            settle(img, s, i);
+            true
+        }
+        Sweep::Fields(t, within) => follow(img, p, s, t, within, i),
+    }
+}
+
+// A sweep over the numbers below n. Where it answers false, the image is as before.
+fn each(img: &mut [u32], p: usize, s: usize, what: Sweep, n: usize) -> bool
+    requires { ⌜ Within p s (now img) ⌝ }
+    requires { ⌜ ((i : ℕ) → i < n → Reaches p s what i) ⌝ }
+    ensures { λ r. ⌜ (now (img .exit) ≡ each n (stepOf s what) (now (img .entry))) × (r ≡ false → now (img .exit) ≡ now (img .entry)) ⌝ }
+{
+    let mut changed = false;
+    let mut i: usize = 0;
+    while i < n {
+        let c = step(img, p, s, what, i);
+        if c {
+            changed = true;
+        }
+        i += 1;
+    }
+    changed
+}
+
+// One pass over partition t. Where it answers false, the image is as before.
+fn pass(img: &mut [u32], p: usize, s: usize, t: kinds::Partition, within: bool) -> bool
+    requires { ⌜ Within p s (now img) ⌝ }
+    requires { ⌜ t .0 < p ⌝ }
+    ensures { λ r. ⌜ (now (img .exit) ≡ passOver s (t .0) within (now (img .entry))) × (r ≡ false → now (img .exit) ≡ now (img .entry)) ⌝ }
+{
+    each(img, p, s, Sweep::Fields(t, within), s * FIELDS)
+}
+
+// Passes within partition t, until one changes no mark.
+fn inside(img: &mut [u32], p: usize, s: usize, t: kinds::Partition)
+    requires { ⌜ Within p s (now img) ⌝ }
+    requires { ⌜ t .0 < p ⌝ }
+    ensures { λ _. ⌜ now (img .exit) ≡ inside s (t .0) (now (img .entry)) ⌝ }
+{
+    let mut n: usize = 0;
+    while n < s {
+        let changed = pass(img, p, s, t, true);
+        if !changed {
+            return;
+        }
+        n += 1;
+    }
+}
+
+// The act open.
+pub fn open(img: &mut [u32], p: usize, s: usize)
+    requires { ⌜ Within p s (now img) ⌝ }
+    ensures { λ _. ⌜ now (img .exit) ≡ openUp p s (now (img .entry)) ⌝ }
+{
+    img[image::PHASE] = 1;
+    each(img, p, s, Sweep::Flags, kinds::Partition::LIMIT as usize);
+    each(img, p, s, Sweep::Roots, image::ANCHORS);
+    let n = unmarked(img, p * s);
+    img[image::COUNT] = 0;
+    img[image::ALLOWANCE] = (p + n) as u32;
+}
+
+// The act trace. The caller knows that one more trace can be counted.
+pub fn trace(img: &mut [u32], p: usize, s: usize, t: kinds::Partition)
+    requires { ⌜ Within p s (now img) ⌝ }
+    requires { ⌜ (t .0 < p) × (get (now img) count < 4294967295) ⌝ }
+    ensures { λ _. ⌜ now (img .exit) ≡ traceOne s (t .0) (now (img .entry)) ⌝ }
+{
+    inside(img, p, s, t);
+    pass(img, p, s, t, false);
+    let c = img[image::COUNT];
+    img[image::FLAG + t.0 as usize] = 1;
+    img[image::COUNT] = c + 1;
+}
+
+// The act close.
+pub fn close(img: &mut [u32], p: usize, s: usize) -> Closed
+    requires { ⌜ Within p s (now img) ⌝ }
+    ensures { λ r. ⌜ (now (img .exit) ≡ closeUp p s (now (img .entry))) × (r ≡ closedOf p s (now (img .entry))) ⌝ }
+{
+    let count = img[image::COUNT];
+    let freed = unmarked(img, p * s);
+    each(img, p, s, Sweep::Slots, p * s);
+    each(img, p, s, Sweep::Flags, kinds::Partition::LIMIT as usize);
+    img[image::PHASE] = 0;
+    img[image::COUNT] = 0;
+    img[image::ALLOWANCE] = 0;
+    Closed {
+        count: count,
+        freed: freed,
+    }
+}
