@@ -12,8 +12,7 @@ use lines::machine::Read;
 use lines::machine::Scan;
 ghost use mathlib.Core.Path.{_≡_};
 ghost use Prim.Native.Nat.{_≤_};
-ghost use lib.ListN.{length};
-ghost use Rattle.scripts.specs.Commands.{pushed, complete, mostNumbers, begun, numbersFrom, commandOf, operationOf};
+ghost use Rattle.scripts.specs.Commands.{pushed, complete, mostNumbers, begun, nextNumber, numbersFrom, commandOf, operationOf};
 
 // A keyword, how many numbers follow it, and the last five of them: e is the last.
 pub struct Call {
@@ -35,6 +34,14 @@ pub enum Command {
     // Any other command, with as many numbers as it takes.
     Call(Call),
     What,
+}
+
+// What a next word is.
+pub enum Next {
+    // A number, and the place after it.
+    Number(u32, usize),
+    Nothing,
+    Bad,
 }
 
 // What a call puts into the waiting transaction.
@@ -112,31 +119,41 @@ impl Call {
     }
 }
 
+// The next word of a line as a number.
+pub fn next_number(line: &[u8], at: usize) -> Next
+    ensures { λ r. ⌜ r ≡ nextNumber (now (line .entry)) at ⌝ }
+{
+    let w = word_at(line, at);
+    let from = w.from;
+    let to = w.to;
+    if from == to {
+        return Next::Nothing;
+    }
+    match number(&line[from..to]) {
+        Parsed::Is(v) => Next::Number(v, to),
+        Parsed::Not => Next::Bad,
+    }
+}
+
 // The command whose numbers stand from a place of the line on.
 fn numbers(line: &[u8], at: usize, word: u64) -> Command
-    requires { ⌜ at ≤ length (now line) ⌝ }
     ensures { λ r. ⌜ r ≡ numbersFrom mostNumbers (now (line .entry)) at (begun word) ⌝ }
 {
     let mut k = Call::new(word);
     let mut i = at;
-    while k.count < Call::LIMIT {
-        let w = word_at(line, i);
-        let from = w.from;
-        let to = w.to;
-        if from == to {
-            return k.complete();
+    loop {
+        match next_number(line, i) {
+            Next::Nothing => return k.complete(),
+            Next::Bad => return Command::What,
+            Next::Number(v, to) => {
+                if k.count == Call::LIMIT {
+                    return Command::What;
+                }
+                k = k.with(v);
+                i = to;
+            }
         }
-        let Parsed::Is(v) = number(&line[from..to]) else {
-            return Command::What;
-        };
-        k = k.with(v);
-        i = to;
     }
-    let w = word_at(line, i);
-    if w.from == w.to {
-        return k.complete();
-    }
-    Command::What
 }
 
 // The command that a line is; its bytes are given without the line end.
