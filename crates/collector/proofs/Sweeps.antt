@@ -1,60 +1,27 @@
--- Laws of sweeps: each step keeps an image within its bounds, and what passes, sweeps and turns come to.
+-- A pass is a sweep over the fields of a partition, the halves of a trace are passes, and every step and every act keeps an image within its bounds.
 -- Assumes nothing.
-use Prim.Native.Nat.{ℕ, zero, suc, _+_, _*_, _-_, _/_, _%_, _≤_, _<_}
-use mathlib.Core.Path.{_≡_, refl, sym, ap, _∙_, subst}
+use Prim.Native.Nat.{ℕ, _+_, _*_, _-_, _/_, _%_, _≤_, _<_}
+use mathlib.Core.Path.{_≡_, refl, sym, _∙_, subst}
 use mathlib.Core.Bool.{Bool, true, false, not, cond}
-use mathlib.Core.Logic.{_≢_}
-use native.Mathlib.Numerals.{add-one}
 use native.Mathlib.Nat.{lt-of-lt-of-le}
 use native.Mathlib.Omega.{arith}
-use lib.Arith.{digits-lt, digits-div, digits-mod}
+use lib.Arith.{digits-lt}
 use lib.Dec.{eqb}
-use borrow.Author.Tests.{eqb-true, eqb-false, eq-eqb, ne-eqb, not-true}
+use borrow.Author.Tests.{eqb-false, not-true}
 use Rattle.loops.specs.Loop.{both, each, again}
 use Rattle.loops.proofs.Tests.{both-true}
 use Rattle.loops.proofs.Loops.{each-keeps, again-keeps, tally-le}
 use Rattle.kinds.specs.Names.{mostPartitions, fields}
-use Rattle.model.specs.Image.{Image, Key, head, root, flag, state, payload, field, phase, count, allowance, anchors, get, put, placeOf, partOf, release, Holder, a-root, a-field}
+use Rattle.model.specs.Image.{Image, head, root, flag, state, payload, field, phase, count, allowance, anchors, get, put, placeOf, partOf, release, a-root, a-field}
 use Rattle.model.specs.Spread.{follow, pass, spread}
-use Rattle.model.specs.Acts.{marked, mark, markWord, refers, target, own, foreign, clear, settle, unclean, markRoots, allow, openUp, inside, outside, finish, traceOne, shut, closeUp, unmarked}
+use Rattle.model.specs.Acts.{marked, mark, refers, target, clear, settle, unclean, markRoots, allow, openUp, inside, outside, finish, traceOne, shut, closeUp, unmarked}
 use Rattle.model.proofs.Keys.{get-put-apart}
 use Rattle.image.specs.Within.{Within}
-use Rattle.image.proofs.Within.{Leads, part-in, within-put, within-release, within-mark, within-markWord}
+use Rattle.image.proofs.Within.{part-in, within-put, within-release, within-mark, within-markWord}
+use Rattle.collector.proofs.Walks.{each-flat}
 use Rattle.collector.specs.declared.Sweep.{Sweep}
 use Rattle.collector.specs.declared.Sweep.the-variants.{Flags, Roots, Slots, Fields}
 use Rattle.collector.specs.Sweeps.{wanted, passOver, followAt, stepOf, Reaches}
-
-module _ {X : Type 0} where
-  -- a sweep goes on where another ended
-  pub each-add : (f : X → ℕ → X) (a b : ℕ) (x : X) → each (a + b) f x ≡ each b (λ y k. f y (a + k)) (each a f x)
-  unfolding each
-  each-add f a zero x = let e : a + 0 ≡ a = omega arith in rw e
-  each-add f a (suc b) x = let e : a + suc b ≡ suc (a + b) = omega arith in rw (e, each-add f a b x)
-
-  pub each-same : (f g : X → ℕ → X) (n : ℕ) (x : X) → ((y : X) (i : ℕ) → i < n → f y i ≡ g y i) → each n f x ≡ each n g x
-  unfolding each
-  each-same f g zero x h = refl
-  each-same f g (suc n) x h = rw (each-same f g n x (λ y i l. h y i (omega arith))) (h (each n g x) n (omega arith))
-
-  -- K steps at each of n numbers are one sweep over n * K
-  pub each-flat : (K : ℕ) (f : X → ℕ → ℕ → X) (n : ℕ) (x : X) → each n (λ y j. each K (λ z k. f z j k) y) x ≡ each (n * K) (λ z i. f z (i / K) (i % K)) x
-  unfolding each
-  each-flat K f zero x = let e : 0 * K ≡ 0 = omega arith in rw e
-  each-flat K f (suc n) x =
-      let e : suc n * K ≡ n * K + K = omega arith in
-      rw (e, each-add (λ z i. f z (i / K) (i % K)) (n * K) K x, each-flat K f n x)
-      (each-same (λ z k. f z n k) (λ z k. f z ((n * K + k) / K) ((n * K + k) % K)) K (each (n * K) (λ z i. f z (i / K) (i % K)) x)
-      (λ y k l. sym (ap (λ (j : ℕ). f y j ((n * K + k) % K)) (digits-div n l) ∙ ap (f y n) (digits-mod n l))))
-
-module _ {X : Type 0} (f : X → X) where
-  -- the whole is the rest from turn n
-  pub again-on : (s n : ℕ) (x : X) → n < s → again (s - n) f x ≡ again (s - (n + 1)) f (f x)
-  unfolding again
-  again-on s n x l = let e : s - n ≡ suc (s - (n + 1)) = omega arith in rw e
-
-  pub again-end : (s n : ℕ) (x : X) → s ≤ n → again (s - n) f x ≡ x
-  unfolding again
-  again-end s n x l = let e : s - n ≡ 0 = omega arith in rw e
 
 -- slot i / 4 of partition t is one of the places
 pub slot-in : (P S t i : ℕ) → t < P → i < S * fields → t * S + i / fields < P * S

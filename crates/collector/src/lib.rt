@@ -270,7 +270,7 @@ fn follow(img: &mut [u32], p: usize, s: usize, t: kinds::Partition, within: bool
 {
     let q = t.0 as usize;
     let j = q * s + i / FIELDS;
-    if img[image::FRONT + image::STRIDE * j] != 2 {
+    if img[image::FRONT + image::STRIDE * j] != 2 { // only a marked object passes marks on
         return false;
     }
     let w = img[image::FRONT + image::STRIDE * j + 2 + i % FIELDS];

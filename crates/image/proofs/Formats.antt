@@ -1,31 +1,22 @@
 -- Format: what its judge answers by the paper's conditions, and what putting P and S into zeros leaves.
 -- Assumes nothing.
 use Prim.Native.Nat.{ℕ, suc, _+_, _*_, _-_, _≤_}
-use mathlib.Core.Path.{_≡_, refl, sym, ap, _∙_}
-use mathlib.Core.Bool.{Bool, true, false, true≢false}
+use mathlib.Core.Path.{_≡_, refl}
+use mathlib.Core.Bool.{Bool, true, false}
 use native.Mathlib.Omega.{arith}
 use lib.Dec.{eqb}
 use lib.ListN.{length, set, replicate}
 use borrow.Author.Tests.{eq-eqb, eqb-true}
+use Rattle.loops.proofs.Tests.{is-false, both-true}
 use Rattle.loops.specs.Loop.{both}
-use Rattle.loops.proofs.Tests.{both-true, is-false}
-use Rattle.kinds.specs.Names.{mostPartitions, mostSlots}
+use Rattle.kinds.proofs.Answers.{unlike}
 use Rattle.kinds.specs.Answers.{refuse}
-use Rattle.kinds.specs.declared.Refusal.{Refusal}
-use Rattle.kinds.specs.declared.Verdict.{Verdict}
-use Rattle.kinds.specs.declared.Verdict.the-variants.{Accepted, Refused}
+use Rattle.kinds.specs.Names.{mostPartitions, mostSlots}
+use Rattle.kinds.specs.declared.Verdict.the-variants.{Accepted}
+use Rattle.model.proofs.Soundness.{Limits, limits-true, limits-back}
 use Rattle.model.specs.Image.{Image, front, stride, lengthOf, size, blank}
 use Rattle.model.specs.Judge.{check, inLimits, judgeFormat}
 use Rattle.image.proofs.Within.{product}
-use Rattle.model.proofs.Soundness.{Limits, limits-true, limits-back}
-
-abbrev accepted : Verdict → Bool
-accepted Accepted = true
-accepted (Refused r) = false
-
--- a verdict is not both
-pub verdict-one : (v : Verdict) (r : Refusal) → Accepted ≡ v → v ≡ Refused r → ⊥
-verdict-one v r a b = true≢false (ap accepted (a ∙ b))
 
 pub room : (p s : ℕ) → p ≤ mostPartitions → s ≤ mostSlots → p * s ≤ mostPartitions * mostSlots
 room p s h k = product mostPartitions p s h k
@@ -41,7 +32,7 @@ module _ (p s len : ℕ) where
     where
       go : (b : Bool) → both (inLimits p s) (eqb len (size p s)) ≡ b → check b 2 0 Accepted ≡ Accepted → Limits p s × (len ≡ size p s)
       go true e q = let b = both-true (inLimits p s) (eqb len (size p s)) e in (limits-true p s (b .0), eqb-true len (size p s) (b .1))
-      go false e q = absurd (true≢false (sym (ap accepted q)))
+      go false e q = unlike q
 
   pub format-not : (Limits p s → len ≡ size p s → ⊥) → refuse 2 0 ≡ judgeFormat p s len
   unfolding judgeFormat check

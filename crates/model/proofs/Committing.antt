@@ -24,6 +24,7 @@ use Rattle.model.specs.Acts.{used, isOpen, mark, markWord, store, born, 
 use Rattle.model.specs.Judge.{check, andThen, inHeap, targetInHeap, targetUsed, judgeOp, judgeOps}
 use Rattle.model.proofs.Keys.{in-fits, get-put-apart, refer-apart}
 use Rattle.model.proofs.Places.{Shape, slot-in, word-none, place-word}
+use Rattle.model.proofs.Soundness.{used-true}
 use Rattle.model.proofs.Moves.{holder-in, Linked, holder-head, Phase, open-true, phase-mark, phase-payload, phase-born, phase-refer}
 use Rattle.model.proofs.Tracing.{mark-read, mark-marks}
 
@@ -36,9 +37,6 @@ pub then-true : (u v : Verdict) → andThen u v ≡ Accepted → (u ≡ Accepted
 unfolding andThen
 then-true Accepted v q = (refl, q)
 then-true (Refused r) v q = (q, (cc))
-
-pub used-true : (x : Image) (i : ℕ) → used x i ≡ true → get x (state i) ≢ 0
-used-true x i e = eqb-false _ _ (not-true _ e)
 
 used-false : (x : Image) (i : ℕ) → not (used x i) ≡ true → get x (state i) ≡ 0
 used-false x i e = eqb-true _ _ (not-false _ (not-true _ e))

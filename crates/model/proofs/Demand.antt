@@ -37,7 +37,7 @@ pub record Demand-3 (P S : ℕ) (earlier : List Act) (x : Image) (acts : List Ac
   pub frees : judge P S y closing ≡ Accepted → (j : ℕ) → j < P * S → (ChainTo S earlier x acts j → ⊥) → get (apply P S y closing) (state j) ≡ 0
   pub sound-after : judge P S y closing ≡ Accepted → isSound (apply P S y closing) ≡ true
 
-run-append : {P S : ℕ} {x y z : Image} {first : List Act} (second : List Act) → Run P S x first y → Run P S y second z → Run P S x (second ++ first) z
+pub run-append : {P S : ℕ} {x y z : Image} {earlier : List Act} (later : List Act) → Run P S x earlier y → Run P S y later z → Run P S x (later ++ earlier) z
 run-append _ r still = r
 run-append _ r (acted {acts = acts} a s j) = acted a (run-append acts r s) j
 

@@ -1,5 +1,5 @@
 -- `collector::first` meets its contract. Assumes nothing.
-use Rattle.collector.proofs.Searches.{first-here, first-on, first-end}
+use Rattle.collector.proofs.Walks.{first-here, first-on, first-end}
 use Rattle.collector.specs.Searches.{meets}
 use Rattle.loops.specs.Loop.{first}
 use native.Mathlib.Nat.{lt-of-lt-of-le}

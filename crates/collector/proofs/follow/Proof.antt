@@ -8,7 +8,6 @@ use Rattle.model.specs.Image.{get, addr, field, placeOf, a-field}
 use Rattle.image.proofs.Within.{product, mark-ready}
 use lib.ListN.{getD}
 use native.Mathlib.Omega.{arith}
-use mathlib.Core.Bool.{true, false}
 use mathlib.Core.Path.{_≡_, refl, sym, ap, _∙_}
 use Prim.Native.Nat.{ℕ, _<_, _-_, _+_, _*_, _/_, _%_}
 use borrow.Author.Tests.{eq-eqb, ne-eqb, not-true, not-false}
@@ -92,8 +91,15 @@ is-wanted-requires c κs = search needs
 
 returns-3 : tie.Need-returns-3
 unfolding followAt follow get addr word
-returns-3 c =
-    (rw (eq-eqb _ _ (c .before .before .before .before .before .if1 .left), ne-eqb _ _ (c .before .before .before .if2 .left), wants (c .before), not-true (c .before .is-wanted .result) (c .if3 .taken)), λ _. refl)
+returns-3 c = (
+  rw (
+    eq-eqb _ _ (c .before .before .before .before .before .if1 .left),
+    ne-eqb _ _ (c .before .before .before .if2 .left),
+    wants (c .before),
+    not-true (c .before .is-wanted .result) (c .if3 .taken),
+  ),
+  λ _. refl,
+)
 
 mul-if4 : tie.Need-mul-if4
 mul-if4 c = omega (arith, target-in (c .before .before))
@@ -109,8 +115,17 @@ slice-read-if4 c = omega (arith, target-in (c .before .before .before))
 
 returns-4 : tie.Need-returns-4
 unfolding followAt follow mark get addr word
-returns-4 c =
-    (rw (eq-eqb _ _ (c .before .before .before .before .before .before .before .if1 .left), ne-eqb _ _ (c .before .before .before .before .before .if2 .left), wants (c .before .before .before), not-false (c .before .before .before .is-wanted .result) (c .before .before .if3 .left), ← (c .before .before .before .before .place-of .ensures), ne-eqb _ _ (c .if4 .taken)), λ _. refl)
+returns-4 c = (
+  rw (
+    eq-eqb _ _ (c .before .before .before .before .before .before .before .if1 .left),
+    ne-eqb _ _ (c .before .before .before .before .before .if2 .left),
+    wants (c .before .before .before),
+    not-false (c .before .before .before .is-wanted .result) (c .before .before .if3 .left),
+    ← (c .before .before .before .before .place-of .ensures),
+    ne-eqb _ _ (c .if4 .taken),
+  ),
+  λ _. refl,
+)
 
 mark-requires : tie.Need-mark-requires
 mark-requires c κs = mark-ready _ _ _ (c .before .before .before .before .before .before .before .before .before .before .before .before .pre .0) _ (target-in (c .before .before .before .before .before))
@@ -120,8 +135,16 @@ same-length c = search needs
 
 returns-5 : tie.Need-returns-5
 unfolding followAt follow get addr word
-returns-5 c =
-    (rw (eq-eqb _ _ (c .before .before .before .before .before .before .before .before .before .before .before .if1 .left), ne-eqb _ _ (c .before .before .before .before .before .before .before .before .before .if2 .left), wants (c .before .before .before .before .before .before .before), not-false (c .before .before .before .before .before .before .before .is-wanted .result) (c .before .before .before .before .before .before .if3 .left), ← (c .before .before .before .before .before .before .before .before .place-of .ensures)) (c .before .before .mark .ensures), λ e. absurd (true≢false e))
+returns-5 c = (
+  rw (
+    eq-eqb _ _ (c .before .before .before .before .before .before .before .before .before .before .before .if1 .left),
+    ne-eqb _ _ (c .before .before .before .before .before .before .before .before .before .if2 .left),
+    wants (c .before .before .before .before .before .before .before),
+    not-false (c .before .before .before .before .before .before .before .is-wanted .result) (c .before .before .before .before .before .before .if3 .left),
+    ← (c .before .before .before .before .before .before .before .before .place-of .ensures),
+  ) (c .before .before .mark .ensures),
+  λ e. absurd (true≢false e),
+)
 
 pub follow-spec : {M : Type 1} → statement M
 follow-spec =

@@ -1,5 +1,6 @@
 -- `collector::inside` meets its contract. Assumes nothing.
-use Rattle.collector.proofs.Sweeps.{again-on, again-end, inside-is, within-pass}
+use Rattle.collector.proofs.Walks.{again-on, again-end}
+use Rattle.collector.proofs.Sweeps.{inside-is, within-pass}
 use Rattle.collector.specs.Sweeps.{passOver}
 use Rattle.image.specs.Within.{Within}
 use Rattle.loops.proofs.Loops.{again-rests}

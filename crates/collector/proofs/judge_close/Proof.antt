@@ -48,7 +48,13 @@ cleaned c = unclean-none (c .before .before .before .before .before .before .bef
 returns-3 : tie.Need-returns-3
 unfolding judge check get addr
 returns-3 c =
-    rw (eq-eqb _ _ (c .before .before .before .before .before .if1 .left), roots-are (c .before .before .before), unclean-some (c .before .before .before .before .before .before .before .before .args .s) _ _ (rw (c .before .before .first .ensures) at (c .before .if3 .taken)), ← (lowest-is (c .before .before .before .before .before .before .before .before .args .s) (c .before .before .before .before .before .before .before .before .args .img .now) (c .before .before .before .before .before .before .before .before .args .p)), ← (c .before .before .first .ensures)) (c .refuse3 .ensures)
+    rw (
+      eq-eqb _ _ (c .before .before .before .before .before .if1 .left),
+      roots-are (c .before .before .before),
+      unclean-some (c .before .before .before .before .before .before .before .before .args .s) _ _ (rw (c .before .before .first .ensures) at (c .before .if3 .taken)),
+      ← (lowest-is (c .before .before .before .before .before .before .before .before .args .s) (c .before .before .before .before .before .before .before .before .args .img .now) (c .before .before .before .before .before .before .before .before .args .p)),
+      ← (c .before .before .first .ensures),
+    ) (c .refuse3 .ensures)
 
 led-requires : tie.Need-led-requires
 led-requires c κs = search needs
@@ -59,12 +65,22 @@ refuse-requires-4 c κs = search needs
 returns-4 : tie.Need-returns-4
 unfolding judge check get addr
 returns-4 c =
-    rw (eq-eqb _ _ (c .before .before .before .before .before .before .before .if1 .left), roots-are (c .before .before .before .before .before), cleaned (c .before .before .before), sym (c .before .before .led .ensures) ∙ not-true (c .before .before .led .result) (c .before .if4 .taken)) (c .refuse4 .ensures)
+    rw (
+      eq-eqb _ _ (c .before .before .before .before .before .before .before .if1 .left),
+      roots-are (c .before .before .before .before .before),
+      cleaned (c .before .before .before),
+      sym (c .before .before .led .ensures) ∙ not-true (c .before .before .led .result) (c .before .if4 .taken),
+    ) (c .refuse4 .ensures)
 
 returns-5 : tie.Need-returns-5
 unfolding judge check get addr
 returns-5 c =
-    rw (eq-eqb _ _ (c .before .before .before .before .before .before .if1 .left), roots-are (c .before .before .before .before), cleaned (c .before .before), sym (c .before .led .ensures) ∙ not-false (c .before .led .result) (c .if4 .left))
+    rw (
+      eq-eqb _ _ (c .before .before .before .before .before .before .if1 .left),
+      roots-are (c .before .before .before .before),
+      cleaned (c .before .before),
+      sym (c .before .led .ensures) ∙ not-false (c .before .led .result) (c .if4 .left),
+    )
 
 pub judge-close-spec : {M : Type 1} → statement M
 judge-close-spec =

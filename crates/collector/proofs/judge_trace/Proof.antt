@@ -1,6 +1,5 @@
 -- `collector::judge_trace` meets its contract. Assumes nothing.
 use Rattle.model.specs.Judge.{judge, check}
-use Rattle.model.specs.Judge.{judge}
 use Rattle.model.specs.Image.{get, addr}
 use borrow.Author.Tests.{eq-eqb, ne-eqb, lt-ltb, le-ltb}
 use borrow.Author.Needs.{needs}
@@ -56,12 +55,22 @@ refuse-requires-4 c κs = search needs
 returns-4 : tie.Need-returns-4
 unfolding judge check get addr
 returns-4 c =
-    rw (eq-eqb _ _ (c .before .before .before .before .before .before .before .before .if1 .left), lt-ltb _ _ (c .before .before .before .before .before .before .if2 .left), eq-eqb _ _ (c .before .before .before .before .if3 .left), eq-eqb _ _ (c .before .if4 .taken)) (c .refuse4 .ensures)
+    rw (
+      eq-eqb _ _ (c .before .before .before .before .before .before .before .before .if1 .left),
+      lt-ltb _ _ (c .before .before .before .before .before .before .if2 .left),
+      eq-eqb _ _ (c .before .before .before .before .if3 .left),
+      eq-eqb _ _ (c .before .if4 .taken),
+    ) (c .refuse4 .ensures)
 
 returns-5 : tie.Need-returns-5
 unfolding judge check get addr
 returns-5 c =
-    rw (eq-eqb _ _ (c .before .before .before .before .before .before .before .if1 .left), lt-ltb _ _ (c .before .before .before .before .before .if2 .left), eq-eqb _ _ (c .before .before .before .if3 .left), ne-eqb _ _ (c .if4 .left))
+    rw (
+      eq-eqb _ _ (c .before .before .before .before .before .before .before .if1 .left),
+      lt-ltb _ _ (c .before .before .before .before .before .if2 .left),
+      eq-eqb _ _ (c .before .before .before .if3 .left),
+      ne-eqb _ _ (c .if4 .left),
+    )
 
 pub judge-trace-spec : {M : Type 1} → statement M
 judge-trace-spec =

@@ -25,7 +25,7 @@ passed : (c : tie.After-pass) → Kept (c .before .before .before .before .befor
 passed c =
     let a = c .before .before .before .before .before .before .before .args in
     subst (Kept (a .p) (a .s) 3 (a .img .now)) (sym (c .pass .ensures .0))
-    (kept-pass (a .p) (a .s) 3 (a .t .0) (a .img .now) (omega arith) (c .before .before .before .before .before .before .before .pre .1 .0) false (c .before .before .before .before .inside .last .0) (within (c .before .before .before .before)))
+    (kept-pass (a .p) (a .s) 3 (a .t .0) (a .img .now) (omega arith) (c .before .before .before .before .before .before .before .pre .1 .0) _ (c .before .before .before .before .inside .last .0) (within (c .before .before .before .before)))
 
 pass-requires : tie.Need-pass-requires
 pass-requires c κs = (within (c .before .before .before) .bounds, c .before .before .before .before .before .before .pre .1 .0)

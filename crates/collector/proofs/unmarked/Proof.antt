@@ -6,7 +6,6 @@ use Rattle.model.specs.Acts.{unmarked}
 use Rattle.model.specs.Image.{get, addr, state}
 use Rattle.loops.proofs.Loops.{tally-le}
 use Rattle.loops.proofs.Turns.{tally-none, tally-more, tally-done}
-use Rattle.loops.specs.Loop.{tally}
 use lib.Dec.{eqb}
 use native.Mathlib.Omega.{arith}
 use mathlib.Core.Path.{_≡_, sym, ap, _∙_}

@@ -1,6 +1,6 @@
 -- `soundness::sound` meets its contract. Assumes nothing.
 use Rattle.soundness.proofs.Rows.{shaped-image, sound-format}
-use Rattle.image.proofs.Formats.{verdict-one}
+use Rattle.kinds.proofs.Answers.{unlike}
 use Rattle.model.proofs.Soundness.{sound-not}
 use Rattle.model.specs.Sound.{isSound}
 use Rattle.model.specs.Image.{get, addr, lengthOf, size}
@@ -44,7 +44,7 @@ returns-2 c = c .sound-at .ensures
 
 returns-3 : tie.Need-returns-3
 unfolding get addr
-returns-3 c = sym (sound-not _ (λ h. verdict-one _ _ (sound-format _ _ _ h ∙ sym (c .before .before .judge-format .ensures)) (c .enum-told2 .given .1)))
+returns-3 c = sym (sound-not _ (λ h. unlike (sym (sound-format _ _ _ h ∙ sym (c .before .before .judge-format .ensures) ∙ c .enum-told2 .given .1))))
 
 pub sound-spec : {M : Type 1} → statement M
 sound-spec =

@@ -1,0 +1,5 @@
+pub mod Perform
+pub mod Judged
+pub mod Unique
+pub mod Numbers
+pub mod Leaving

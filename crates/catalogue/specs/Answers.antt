@@ -1,0 +1,58 @@
+-- What each answer says: the paper's number (0 is accepted), its extra answer, and the values beside them.
+use Prim.Native.Nat.{ℕ}
+use mathlib.Core.Bool.{Bool, true, false}
+use Rattle.kinds.specs.declared.Record.{Record}
+use Rattle.kinds.specs.declared.Refusal.{Refusal}
+use Rattle.kinds.specs.declared.Verdict.{Verdict}
+use Rattle.kinds.specs.declared.Verdict.the-variants.{Accepted, Refused}
+use Rattle.catalogue.specs.declared.Answer.{Answer}
+use Rattle.catalogue.specs.declared.Answer.the-variants.{Done, Refused as NotDone}
+use Rattle.catalogue.specs.declared.Closing.{Closing}
+use Rattle.catalogue.specs.declared.Closing.the-variants.{Closed, Refused as NotClosed}
+use Rattle.catalogue.specs.declared.Reading.{Reading}
+use Rattle.catalogue.specs.declared.Asked.{Asked}
+use Rattle.catalogue.specs.declared.Asked.the-variants.{Yes, No, Refused as NotAsked}
+
+pub record Said (A : Type 0) : Type 0 where
+  pub number : ℕ
+  pub extra : ℕ
+  pub value : A
+
+module _ {A : Type 0} where
+  abbrev pub accepted : A → Said A
+  accepted v = record { number = 0; extra = 0; value = v }
+
+  abbrev pub refusedWith : A → Refusal → Said A
+  refusedWith v r = record { number = r .number; extra = r .extra; value = v }
+
+-- format, commit, open, trace: the record's length; refused: 0
+abbrev pub said : Answer → Said ℕ
+said (Done n) = accepted n
+said (NotDone r) = refusedWith 0 r
+
+-- close: the record's length, the traces counted, the number freed; refused: zeros
+pub record Totals : Type 0 where
+  pub length : ℕ
+  pub count : ℕ
+  pub freed : ℕ
+
+abbrev pub totals : ℕ → ℕ → ℕ → Totals
+totals n c f = record { length = n; count = c; freed = f }
+
+abbrev pub saidClosing : Closing → Said Totals
+saidClosing (Closed n c f) = accepted (totals n c f)
+saidClosing (NotClosed r) = refusedWith (totals 0 0 0) r
+
+-- read: the record that stands beside the verdict
+abbrev pub saidVerdict : Verdict → Record → Said Record
+saidVerdict Accepted x = accepted x
+saidVerdict (Refused r) x = refusedWith x r
+
+abbrev pub saidReading : Reading → Said Record
+saidReading r = saidVerdict (r .verdict) (r .object)
+
+-- ask: yes or no; refused: no
+abbrev pub saidAsked : Asked → Said Bool
+saidAsked Yes = accepted true
+saidAsked No = accepted false
+saidAsked (NotAsked r) = refusedWith false r

@@ -1,0 +1,113 @@
+-- What each public call answers and leaves: one definition of its inputs, accepted or refused.
+use Prim.Native.Nat.{ℕ, _+_, _*_}
+use mathlib.Core.Bool.{Bool, true, false, cond}
+use mathlib.Core.List.{List}
+use lib.Dec.{leb}
+use lib.ListN.{length, take}
+use Rattle.kinds.specs.Names.{mostOperations}
+use Rattle.kinds.specs.Answers.{refuse, blankRecord}
+use Rattle.kinds.specs.declared.Name.{Name}
+use Rattle.kinds.specs.declared.Partition.{Partition}
+use Rattle.kinds.specs.declared.Operation.{Operation}
+use Rattle.kinds.specs.declared.Record.{Record}
+use Rattle.kinds.specs.declared.Refusal.{Refusal}
+use Rattle.kinds.specs.declared.Verdict.{Verdict}
+use Rattle.kinds.specs.declared.Verdict.the-variants.{Accepted, Refused}
+use Rattle.model.specs.Image.{Image, partitions, slots, count, get, lengthOf, blank, place}
+use Rattle.model.specs.Acts.{Act, commit, opening, closing, trace, unmarked, apply}
+use Rattle.model.specs.Judge.{check, judge, judgeFormat, judgeName}
+use Rattle.model.specs.Questions.{readOf, ask}
+use Rattle.model.specs.Sound.{isSound}
+use Rattle.writer.specs.Record.{recordOf, headingOf}
+use Rattle.writer.specs.Write.{splice}
+use Rattle.catalogue.specs.declared.Answer.{Answer}
+use Rattle.catalogue.specs.declared.Answer.the-variants.{Done, Refused as NotDone}
+use Rattle.catalogue.specs.declared.Closing.{Closing}
+use Rattle.catalogue.specs.declared.Closing.the-variants.{Closed, Refused as NotClosed}
+use Rattle.catalogue.specs.declared.Reading.{Reading}
+use Rattle.catalogue.specs.declared.Asked.{Asked}
+use Rattle.catalogue.specs.declared.Asked.the-variants.{Yes, No, Refused as NotAsked}
+
+-- 17, judged last
+abbrev pub noRoom : Refusal
+noRoom = record { number = 17; extra = 0 }
+
+-- a logged call's answer, and the image and the log buffer that it leaves
+pub record Outcome (A : Type 0) : Type 0 where
+  pub answer : A
+  pub image : Image
+  pub log : List ℕ
+
+module _ {A : Type 0} where
+  abbrev pub outcome : A → Image → List ℕ → Outcome A
+  outcome a img log = record { answer = a; image = img; log = log }
+
+  -- refused: image and log buffer stay. Accepted: 17 where the record does not fit from the place, else the next image, and the record in its place
+  unfoldable pub perform : (ℕ → A) → (Refusal → A) → Verdict → List ℕ → Image → Image → List ℕ → ℕ → Outcome A
+  perform done refused (Refused r) bytes next img log at = outcome (refused r) img log
+  perform done refused Accepted bytes next img log at =
+      cond (leb (at + length bytes) (length log)) (outcome (done (length bytes)) next (splice log at bytes))
+      (outcome (refused noRoom) img log)
+
+-- P and S are words 0 and 1
+abbrev pub judgeIn : Image → Act → Verdict
+judgeIn img a = judge (get img partitions) (get img slots) img a
+
+abbrev pub applyIn : Image → Act → Image
+applyIn img a = apply (get img partitions) (get img slots) img a
+
+-- 1 comes first
+unfoldable pub judgeAct : Image → Act → Verdict
+judgeAct img a = check (isSound img) 1 0 (judgeIn img a)
+
+-- a commit of the first n of 32 operations: 6 where n is over 32
+unfoldable pub judgeCommit : Image → List Operation → ℕ → Verdict
+judgeCommit img ops n = check (isSound img) 1 0 (check (leb n mostOperations) 6 0 (judgeIn img (commit (take n ops))))
+
+-- FORMAT 2, 17
+unfoldable pub formatOf : Image → ℕ → ℕ → List ℕ → ℕ → Outcome Answer
+formatOf img P S log at = perform Done NotDone (judgeFormat P S (lengthOf img)) (headingOf P S) (blank P S) img log at
+
+-- an act's call: 1, the act's own list, 17
+unfoldable pub callOf : Image → Act → List ℕ → ℕ → Outcome Answer
+callOf img a log at = perform Done NotDone (judgeAct img a) (recordOf a) (applyIn img a) img log at
+
+-- COMMIT 1, 6, each operation in turn, 17
+unfoldable pub commitOf : Image → List Operation → ℕ → List ℕ → ℕ → Outcome Answer
+commitOf img ops n log at =
+    perform Done NotDone (judgeCommit img ops n) (recordOf (commit (take n ops))) (applyIn img (commit (take n ops))) img log at
+
+-- OPEN 1, 11, 12, 17
+abbrev pub openOf : Image → List ℕ → ℕ → Outcome Answer
+openOf img log at = callOf img opening log at
+
+-- TRACE 1, 10, 7, 13, 15, 17
+abbrev pub traceOf : Image → Partition → List ℕ → ℕ → Outcome Answer
+traceOf img p log at = callOf img (trace (p .0)) log at
+
+-- CLOSE 1, 10, 12, 14, 16, 17; it answers the count and the number freed
+abbrev pub closed : Image → ℕ → Closing
+closed img n = Closed n (get img count) (unmarked (get img partitions * get img slots) img)
+
+unfoldable pub closeOf : Image → List ℕ → ℕ → Outcome Closing
+closeOf img log at = perform (closed img) NotClosed (judgeAct img closing) (recordOf closing) (applyIn img closing) img log at
+
+-- READ and ASK 1, 7, 9
+unfoldable pub judgeObject : Image → Name → Verdict
+judgeObject img n = check (isSound img) 1 0 (judgeName (get img partitions) (get img slots) img n)
+
+-- refused: payload 0 and four nothings
+abbrev pub reading : Verdict → Record → Reading
+reading Accepted r = record { verdict = Accepted; object = r }
+reading (Refused x) r = record { verdict = Refused x; object = blankRecord }
+
+unfoldable pub readingOf : Image → Name → Reading
+readingOf img n = reading (judgeObject img n) (readOf img (place (get img slots) n))
+
+-- refused: no
+abbrev pub asked : Verdict → Bool → Asked
+asked Accepted b = cond b Yes No
+asked (Refused x) b = NotAsked x
+
+unfoldable pub askedOf : Image → Name → Asked
+askedOf img n = asked (judgeObject img n) (ask (get img partitions) (get img slots) img (place (get img slots) n))

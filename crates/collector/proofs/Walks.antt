@@ -1,0 +1,98 @@
+-- Laws of any search, sweep or row of turns: how a loop in code goes on, and what it comes to. They speak of no image.
+-- Assumes nothing.
+use Prim.Native.Nat.{ℕ, zero, suc, _+_, _*_, _-_, _/_, _%_, _≤_, _<_}
+use mathlib.Core.Path.{_≡_, refl, sym, ap, _∙_, subst}
+use mathlib.Core.Bool.{Bool, true, false, not, cond}
+use mathlib.Core.Logic.{⊎-elim}
+use native.Mathlib.Nat.{eq-or-lt-of-le}
+use native.Mathlib.Omega.{arith}
+use lib.Arith.{digits-div, digits-mod}
+use borrow.Author.Tests.{not-true, not-false}
+use Rattle.loops.specs.Loop.{each, again, first, every, tally}
+use Rattle.loops.proofs.Loops.{every-so}
+use Rattle.loops.proofs.Turns.{every-fails}
+
+module _ {X : Type 0} where
+  -- a sweep goes on where another ended
+  pub each-add : (f : X → ℕ → X) (a b : ℕ) (x : X) → each (a + b) f x ≡ each b (λ y k. f y (a + k)) (each a f x)
+  unfolding each
+  each-add f a zero x = let e : a + 0 ≡ a = omega arith in rw e
+  each-add f a (suc b) x = let e : a + suc b ≡ suc (a + b) = omega arith in rw (e, each-add f a b x)
+
+  pub each-same : (f g : X → ℕ → X) (n : ℕ) (x : X) → ((y : X) (i : ℕ) → i < n → f y i ≡ g y i) → each n f x ≡ each n g x
+  unfolding each
+  each-same f g zero x h = refl
+  each-same f g (suc n) x h = rw (each-same f g n x (λ y i l. h y i (omega arith))) (h (each n g x) n (omega arith))
+
+  -- K steps at each of n numbers are one sweep over n * K
+  pub each-flat : (K : ℕ) (f : X → ℕ → ℕ → X) (n : ℕ) (x : X) → each n (λ y j. each K (λ z k. f z j k) y) x ≡ each (n * K) (λ z i. f z (i / K) (i % K)) x
+  unfolding each
+  each-flat K f zero x = let e : 0 * K ≡ 0 = omega arith in rw e
+  each-flat K f (suc n) x =
+      let e : suc n * K ≡ n * K + K = omega arith in
+      rw (e, each-add (λ z i. f z (i / K) (i % K)) (n * K) K x, each-flat K f n x)
+      (each-same (λ z k. f z n k) (λ z k. f z ((n * K + k) / K) ((n * K + k) % K)) K (each (n * K) (λ z i. f z (i / K) (i % K)) x)
+      (λ y k l. sym (ap (λ (j : ℕ). f y j ((n * K + k) % K)) (digits-div n l) ∙ ap (f y n) (digits-mod n l))))
+
+module _ {X : Type 0} (f : X → X) where
+  -- the whole is the rest from turn n
+  pub again-on : (s n : ℕ) (x : X) → n < s → again (s - n) f x ≡ again (s - (n + 1)) f (f x)
+  unfolding again
+  again-on s n x l = let e : s - n ≡ suc (s - (n + 1)) = omega arith in rw e
+
+  pub again-end : (s n : ℕ) (x : X) → s ≤ n → again (s - n) f x ≡ x
+  unfolding again
+  again-end s n x l = let e : s - n ≡ 0 = omega arith in rw e
+
+module _ (f : ℕ → Bool) where
+  -- the whole search is the rest from i
+  pub first-here : (n i : ℕ) → i < n → f i ≡ true → first (n - i) i f ≡ i
+  unfolding first
+  first-here n i l e = let q : n - i ≡ suc (n - suc i) = omega arith in rw (q, e)
+
+  pub first-on : (n i : ℕ) → i < n → f i ≡ false → first (n - i) i f ≡ first (n - (i + 1)) (i + 1) f
+  unfolding first
+  first-on n i l e =
+      let q : n - i ≡ suc (n - suc i) = omega arith in
+      let s : i + 1 ≡ suc i = omega arith in
+      rw (q, s, e)
+
+  pub first-end : (n i : ℕ) → n ≤ i → first (n - i) i f ≡ i
+  unfolding first
+  first-end n i l = let q : n - i ≡ 0 = omega arith in rw q
+
+  -- what a search comes to meets the test, or none does
+  pub first-some : (n i : ℕ) → first n i f < i + n → f (first n i f) ≡ true
+  unfolding first
+  first-some zero i l = absurd (omega arith)
+  first-some (suc n) i l = go (f i) refl (first-some n (suc i)) l
+    where
+      go : (b : Bool) → f i ≡ b → (first n (suc i) f < suc i + n → f (first n (suc i) f) ≡ true) → cond b i (first n (suc i) f) < i + suc n
+          → f (cond b i (first n (suc i) f)) ≡ true
+      go true e r l = e
+      go false e r l = r (omega arith)
+
+  pub first-none : (n i : ℕ) → i + n ≤ first n i f → (k : ℕ) → i ≤ k → k < i + n → f k ≡ false
+  unfolding first
+  first-none zero i l k a b = absurd (omega arith)
+  first-none (suc n) i l k a b = go (f i) refl (first-none n (suc i)) l
+    where
+      go : (c : Bool) → f i ≡ c → (suc i + n ≤ first n (suc i) f → (j : ℕ) → suc i ≤ j → j < suc i + n → f j ≡ false)
+          → i + suc n ≤ cond c i (first n (suc i) f) → f k ≡ false
+      go true e r m = absurd (omega arith)
+      go false e r m = ⊎-elim (λ q. subst (λ (j : ℕ). f j ≡ false) q e) (λ q. r (omega arith) k q (omega arith)) (eq-or-lt-of-le a)
+
+-- none of n passes
+pub tally-none-pass : (n : ℕ) (f : ℕ → Bool) → ((i : ℕ) → i < n → f i ≡ false) → tally n f ≡ 0
+unfolding tally
+tally-none-pass zero f h = refl
+tally-none-pass (suc n) f h = rw (tally-none-pass n f (λ i l. h i (omega arith)), h n (omega arith))
+
+module _ (n : ℕ) (f g : ℕ → Bool) (h : (i : ℕ) → f i ≡ not (g i)) where
+  -- one that meets the test is one that fails its opposite
+  pub first-fails : first n 0 f < n → every n g ≡ false
+  first-fails l =
+      sym (every-fails g n (first n 0 f) l (not-true (g (first n 0 f)) (sym (h (first n 0 f)) ∙ first-some f n 0 (omega arith))))
+
+  pub first-every : n ≤ first n 0 f → every n g ≡ true
+  first-every l = every-so n g (λ i m. not-false (g i) (sym (h i) ∙ first-none f n 0 (omega arith) i (omega arith) (omega arith)))

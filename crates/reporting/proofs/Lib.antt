@@ -1,0 +1,4 @@
+pub mod Headings
+pub mod Texts
+pub mod Recoveries
+pub mod Reporting

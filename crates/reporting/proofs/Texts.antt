@@ -1,0 +1,120 @@
+-- Laws of the report's lines: how long they are, and how they are put one after the other.
+-- Assumes nothing.
+use Prim.Native.Nat.{ℕ, zero, suc, _+_, _*_, _/_, _%_, _^_, _≤_, _<_}
+use native.Mathlib.Omega.{arith}
+use native.Mathlib.Decide.{decLt}
+use native.Mathlib.Nat.{div-lt-iff-lt-mul, mod-lt, mul-le-mul-right}
+use native.Mathlib.Numerals.{add-one}
+use mathlib.Core.Path.{_≡_, refl, sym, ap, subst, _∙_}
+use mathlib.Core.Bool.{Bool, true, false, cond, not}
+use mathlib.Core.Logic.{_≢_}
+use mathlib.Core.List.{List, [], _∷_, _++_}
+use lib.ListN.{length, set, take, getD, length-append}
+use lib.Seq.{take-suc, take-all}
+use borrow.Author.Tests.{eq-eqb, ne-eqb}
+use Rattle.lines.proofs.Digits.{decimal-length, decimal-length-small, decimal-length-step}
+use Rattle.lines.specs.Decimal.{decimal}
+use Rattle.lines.specs.Print.{Put}
+use Rattle.model.specs.Acts.{used}
+use Rattle.model.specs.Image.{Image, payload, phase, addr, get}
+use Rattle.writer.proofs.Puts.{put-none, put-byte, put-then, put-length}
+use Rattle.reporting.specs.Report.{room, objectWord, spaced, ending, row, objectAt, objects, refusedText, keptText}
+
+-- a number has at most ten digits, and one below 100 at most two
+pub spaced-length : (n : ℕ) → length (spaced n) ≤ 11
+unfolding spaced
+spaced-length n = omega (arith, decimal-length n)
+
+small-length : (n : ℕ) → n < 100 → length (decimal n) ≤ 2
+small-length n h = by (decLt n 10)
+  where
+    by : Dec (n < 10) → length (decimal n) ≤ 2
+    by (yes p) = omega (arith, decimal-length-small n p)
+    by (no p) = omega (arith, decimal-length-step n (omega arith) (omega arith), decimal-length-small (n / 10) (omega arith))
+
+spaced-small : (n : ℕ) → n < 100 → length (spaced n) ≤ 3
+unfolding spaced
+spaced-small n h = omega (arith, small-length n h)
+
+pub row-length : (word : List ℕ) (n : ℕ) → length (row word (n ∷ [])) ≤ length word + 12
+unfolding row
+row-length word n =
+    omega (arith, length-append word (spaced n ++ (10 ∷ [])), length-append (spaced n) (10 ∷ []), spaced-length n)
+
+-- an object's line has at most 24 bytes
+pub object-length : (p s v : ℕ) → p < 100 → s < 100 → length (row objectWord (p ∷ s ∷ v ∷ [])) ≤ 24
+unfolding row
+object-length p s v hp hs =
+    omega (arith, length-append objectWord (spaced p ++ (spaced s ++ (spaced v ++ (10 ∷ [])))), length-append (spaced p) (spaced s ++ (spaced v ++ (10 ∷ []))), length-append (spaced s) (spaced v ++ (10 ∷ [])), length-append (spaced v) (10 ∷ []), spaced-small p hp, spaced-small s hs, spaced-length v)
+
+-- the slot and the partition of a place have two digits
+module _ (S j : ℕ) (narrow : S ≤ 64) (in-heap : j < 16 * S) where
+  pub some-slot : 0 < S
+  some-slot = omega arith
+
+  pub part-small : j / S < 16
+  part-small = div-lt-iff-lt-mul some-slot .1 in-heap
+
+  pub slot-small : j % S < 64
+  slot-small = let h : j % S < S = mod-lt j some-slot in omega arith
+
+  pub line-length : (v : ℕ) → length (row objectWord (j / S ∷ j % S ∷ v ∷ [])) ≤ 24
+  line-length v = let p : j / S < 16 = part-small in let s : j % S < 64 = slot-small in object-length (j / S) (j % S) v (omega arith) (omega arith)
+
+  pub place-length : (y : Image) → length (objectAt S y j) ≤ 24
+  unfolding objectAt
+  place-length y = by (used y j)
+    where
+      by : (b : Bool) → length (cond b (row objectWord (j / S ∷ j % S ∷ get y (payload j) ∷ [])) []) ≤ 24
+      by true = line-length (get y (payload j))
+      by false = omega arith
+
+pub objects-length : (S n : ℕ) (y : Image) → S ≤ 64 → n ≤ 16 * S → length (objects S y n) ≤ 24 * n
+unfolding objects
+objects-length S zero y h k = omega arith
+objects-length S (suc j) y h k =
+    let a : length (objects S y j) ≤ 24 * j = objects-length S j y h (omega arith) in
+    let b : length (objectAt S y j) ≤ 24 = place-length S j h (omega arith) y in
+    omega (arith, length-append (objects S y j) (objectAt S y j))
+
+-- a word's next byte
+pub put-letter : (l m word : List ℕ) (at i : ℕ) → i < length word → Put l m at (take i word) (at + i) → Put l (set m (at + i) (getD word i 0)) at (take (i + 1) word) (at + (i + 1))
+put-letter l m word at i h p =
+    let e : at + i + 1 ≡ at + (i + 1) = omega arith in
+    rw (add-one, take-suc word i 0 h) (subst (λ (k : ℕ). Put l (set m (at + i) (getD word i 0)) at (take i word ++ (getD word i 0 ∷ [])) k) (e ∙ ap (λ (k : ℕ). at + k) (add-one i)) (put-then p (put-byte m (at + i) (getD word i 0))))
+
+pub put-word : (l m word : List ℕ) (at i : ℕ) → length word ≤ i → Put l m at (take i word) (at + i) → Put l m at word (at + i)
+put-word l m word at i h p = subst (λ (xs : List ℕ). Put l m at xs (at + i)) (take-all i word h) p
+
+-- what is said of a place, by the word that is its state
+module _ (S : ℕ) (y : Image) (j : ℕ) where
+  pub place-free : getD y (37 + 6 * j) 0 ≡ 0 → objectAt S y j ≡ []
+  unfolding objectAt get addr
+  place-free e = rw (eq-eqb (getD y (37 + 6 * j) 0) 0 e)
+
+  pub place-used : getD y (37 + 6 * j) 0 ≢ 0 → objectAt S y j ≡ row objectWord (j / S ∷ j % S ∷ getD y (37 + 6 * j + 1) 0 ∷ [])
+  unfolding objectAt get addr
+  place-used e = rw (ne-eqb (getD y (37 + 6 * j) 0) 0 e)
+
+-- one more place
+module _ (S : ℕ) (y : Image) (j : ℕ) {before after : List ℕ} {at next : ℕ} (p : Put before after at (objects S y j) next) where
+  pub put-more : {more : List ℕ} {r : ℕ} → Put after more next (objectAt S y j) r → Put before more at (objects S y (j + 1)) r
+  unfolding objects
+  put-more q = rw add-one (put-then p q)
+
+  pub room-more : (n : ℕ) → j < n → S ≤ 64 → n ≤ 16 * S → at + 24 * n ≤ length before → next + 24 ≤ length after
+  room-more n h k w r = omega (arith, put-length p, p .next, objects-length S j y k (omega arith))
+
+-- room for a line, and after it: how far on, and as many bytes as before
+pub row-room : (word : List ℕ) (n at m : ℕ) → at + length word + 12 ≤ m → at + length (row word (n ∷ [])) ≤ m
+row-room word n at m h = omega (arith, row-length word n)
+
+pub row-put : {before after : List ℕ} {at r : ℕ} (word : List ℕ) (n : ℕ) → Put before after at (row word (n ∷ [])) r → (r ≤ at + length word + 12) × (length after ≡ length before)
+row-put word n p = (omega (arith, p .next, row-length word n), put-length p)
+
+pub object-room : (p s v at m : ℕ) → p < 100 → s < 100 → at + 24 ≤ m → at + length (row objectWord (p ∷ s ∷ v ∷ [])) ≤ m
+object-room p s v at m hp hs h = omega (arith, object-length p s v hp hs)
+
+-- a heap has at most 16 partitions, and 1,024 places
+pub places-most : (p s : ℕ) → p ≤ 16 → s ≤ 64 → (p * s ≤ 16 * s) × (p * s ≤ 1024)
+places-most p s h k = let e : p * s ≤ 16 * s = mul-le-mul-right s h in (e, omega arith)

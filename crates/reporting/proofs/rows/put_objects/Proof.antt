@@ -1,0 +1,60 @@
+-- `reporting::rows::put_objects` meets its contract. Assumes nothing.
+use Rattle.reporting.proofs.Texts.{put-more, room-more}
+use Rattle.reporting.specs.Report.{objects}
+use Rattle.writer.proofs.Puts.{put-none, put-length}
+use Rattle.model.specs.Image.{addr}
+use Rattle.lines.specs.Print.{Put}
+use mathlib.Core.Path.{_≡_}
+use Prim.Native.Nat.{_-_, _≤_}
+use native.Mathlib.Omega.{arith}
+use borrow.Author.Needs.{needs}
+use Rattle.reporting.proofs.rows.put_objects.Statement.{statement}
+use Rattle.reporting.proofs.rows.put_objects.Tie as tie
+
+abbrev Inv-loop : tie.InvT-loop
+Inv-loop out₀ at img s n next₀ j₀ out next j = (j ≤ n) × Put out₀ out at (objects s img j) next
+
+abbrev μ-loop : tie.MeasureT-loop
+μ-loop out₀ at img s n next₀ j₀ out next j = n - j
+
+loop-holds : tie.Need-loop-holds Inv-loop μ-loop
+unfolding objects
+loop-holds c = (search needs, put-none _ _)
+
+put-place-requires : tie.Need-put-place-requires Inv-loop μ-loop
+unfolding addr
+put-place-requires c κs =
+    let a = c .before .before .before .before .before .args in
+    let p = c .before .before .loop .inv .1 in
+    (omega arith, omega arith, omega arith, room-more _ _ _ p (a .n) (c .before .loop-test .taken) (c .before .before .before .before .before .pre .0) (c .before .before .before .before .before .pre .1) (c .before .before .before .before .before .pre .3))
+
+add-j : tie.Need-add-j Inv-loop μ-loop
+add-j c = search needs
+
+loop-less : tie.Need-loop-less Inv-loop μ-loop
+loop-less c = search needs
+
+loop-again : tie.Need-loop-again Inv-loop μ-loop
+loop-again c = (search needs, put-more _ _ _ (c .before .before .before .before .before .loop .inv .1) (c .before .before .put-place .ensures))
+
+same-length : tie.Need-same-length Inv-loop μ-loop
+same-length c = put-length (c .before .loop .inv .1)
+
+returns : tie.Need-returns Inv-loop μ-loop
+returns c =
+    let e : c .before .loop .j ≡ c .before .before .before .before .args .n = search needs in
+    rw (← e) (c .before .loop .inv .1)
+
+pub put-objects-spec : {M : Type 1} → statement M
+put-objects-spec =
+    tie.close
+    (tie.spec
+    Inv-loop
+    μ-loop
+    loop-holds
+    put-place-requires
+    add-j
+    loop-less
+    loop-again
+    same-length
+    returns)

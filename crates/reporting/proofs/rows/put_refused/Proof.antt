@@ -1,0 +1,39 @@
+-- `reporting::rows::put_refused` meets its contract. Assumes nothing.
+use Rattle.reporting.proofs.Texts.{row-room, row-put}
+-- `reporting::rows::put_refused` meets its contract. Assumes nothing.
+use Rattle.reporting.specs.Report.{refusedText}
+use Rattle.writer.proofs.Puts.{put-then}
+use native.Mathlib.Omega.{arith}
+use borrow.Author.Needs.{needs}
+use Rattle.reporting.proofs.rows.put_refused.Statement.{statement}
+use Rattle.reporting.proofs.rows.put_refused.Tie as tie
+
+slice-aggregate-put-row : tie.Need-slice-aggregate-put-row
+slice-aggregate-put-row c = search needs
+
+put-row-requires : tie.Need-put-row-requires
+put-row-requires c κs = row-room _ _ _ _ (omega arith)
+
+slice-aggregate-put-row-2 : tie.Need-slice-aggregate-put-row-2
+slice-aggregate-put-row-2 c = search needs
+
+put-row-requires-2 : tie.Need-put-row-requires-2
+put-row-requires-2 c κs = let p = row-put _ _ (c .before .before .before .before .put-row .ensures) in row-room _ _ _ _ (omega (arith, p .0, p .1))
+
+same-length : tie.Need-same-length
+same-length c = search needs
+
+returns : tie.Need-returns
+unfolding refusedText
+returns c = put-then (c .before .before .before .before .before .before .before .put-row .ensures) (c .before .before .put-row2 .ensures)
+
+pub put-refused-spec : {M : Type 1} → statement M
+put-refused-spec =
+    tie.close
+    (tie.spec
+    slice-aggregate-put-row
+    put-row-requires
+    slice-aggregate-put-row-2
+    put-row-requires-2
+    same-length
+    returns)
