@@ -1,0 +1,56 @@
+// The script's keywords, as numbers: their bytes read as digits in base 256; and how many numbers follow each. The operations are the log's.
+use lines::words::CLR;
+use lines::words::NEW;
+use lines::words::ROOT;
+use lines::words::SET;
+use lines::words::UNROOT;
+use lines::words::VAL;
+ghost use mathlib.Core.Path.{_≡_};
+ghost use Rattle.scripts.specs.Table.{rows, takes};
+
+pub const IMAGE: u64 = 452806666085;
+
+pub const WORD: u64 = 2003792484;
+
+pub const BUFFER: u64 = 108256368682354;
+
+pub const BYTES: u64 = 422944466291;
+
+pub const FORMAT: u64 = 112628847174004;
+
+pub const COMMIT: u64 = 109330228406644;
+
+pub const OPEN: u64 = lines::words::OPEN;
+
+pub const TRACE: u64 = lines::words::TRACE;
+
+pub const CLOSE: u64 = lines::words::CLOSE;
+
+pub const READ: u64 = 1919246692;
+
+pub const ASK: u64 = 6386539;
+
+pub const RECOVER: u64 = 32199625091212658;
+
+pub const DIGEST: u64 = 110403869045620;
+
+pub const SHOW: u64 = 1936224119;
+
+pub const LOG: u64 = 7106407;
+
+// More numbers than any command has: what is no keyword takes so many.
+pub const NONE: usize = 6;
+
+// How many numbers follow a keyword. `bytes` has none here, since any number may follow it.
+pub fn takes(w: u64) -> usize
+    ensures { λ r. ⌜ r ≡ takes rows w ⌝ }
+{
+    match w {
+        DIGEST | SHOW => 0,
+        IMAGE | BUFFER | UNROOT | COMMIT | OPEN | CLOSE | RECOVER | LOG => 1,
+        WORD | TRACE | READ | ASK => 2,
+        FORMAT | NEW | CLR | VAL | ROOT => 3,
+        SET => 5,
+        _ => NONE,
+    }
+}

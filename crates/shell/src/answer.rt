@@ -1,0 +1,112 @@
+// Each call's answer as a line.
+use crate::out::byte;
+use crate::out::decimal;
+use crate::out::end;
+use crate::out::number;
+use crate::out::text;
+use catalogue::Answer;
+use catalogue::Asked;
+use catalogue::Closing;
+use catalogue::Reading;
+use kinds::Name;
+use kinds::Record;
+use kinds::Refusal;
+use kinds::Target;
+use kinds::Verdict;
+use recovery::Recovery;
+
+pub fn what(out: &mut [u8; 4096], at: usize) -> usize {
+    text(out, at, b"what?\n")
+}
+
+pub fn ok(out: &mut [u8; 4096], at: usize) -> usize {
+    text(out, at, b"ok\n")
+}
+
+// A word, a number and the line end.
+pub fn counted(out: &mut [u8; 4096], at: usize, word: &[u8], n: usize) -> usize {
+    let a = text(&mut *out, at, word);
+    let b = number(&mut *out, a, n as u64);
+    end(out, b)
+}
+
+fn refused(out: &mut [u8; 4096], at: usize, r: Refusal) -> usize {
+    let a = text(&mut *out, at, b"refused");
+    let b = number(&mut *out, a, r.number as u64);
+    let c = number(&mut *out, b, r.extra as u64);
+    end(out, c)
+}
+
+pub fn answered(out: &mut [u8; 4096], at: usize, a: Answer) -> usize {
+    match a {
+        Answer::Done(n) => counted(out, at, b"done", n),
+        Answer::Refused(r) => refused(out, at, r),
+    }
+}
+
+pub fn closed(out: &mut [u8; 4096], at: usize, c: Closing) -> usize {
+    match c {
+        Closing::Closed(n, traces, freed) => {
+            let a = text(&mut *out, at, b"done");
+            let b = number(&mut *out, a, n as u64);
+            let d = number(&mut *out, b, traces as u64);
+            let e = number(&mut *out, d, freed as u64);
+            end(out, e)
+        }
+        Closing::Refused(r) => refused(out, at, r),
+    }
+}
+
+pub fn recovered(out: &mut [u8; 4096], at: usize, r: Recovery) -> usize {
+    match r {
+        Recovery::Kept(n) => counted(out, at, b"kept", n),
+        Recovery::Refused(f) => refused(out, at, f),
+    }
+}
+
+pub fn asked(out: &mut [u8; 4096], at: usize, a: Asked) -> usize {
+    match a {
+        Asked::Yes => text(out, at, b"yes\n"),
+        Asked::No => text(out, at, b"no\n"),
+        Asked::Refused(r) => refused(out, at, r),
+    }
+}
+
+// An object's name, as p.s.
+pub fn name(out: &mut [u8; 4096], at: usize, n: Name) -> usize {
+    let a = decimal(&mut *out, at, n.partition.0 as u64);
+    let b = byte(&mut *out, a, b'.');
+    decimal(out, b, n.slot.0 as u64)
+}
+
+// A space and what a field or a root holds: `-` for nothing.
+pub fn target(out: &mut [u8; 4096], at: usize, t: Target) -> usize {
+    let a = byte(&mut *out, at, b' ');
+    match t {
+        Target::Nothing => byte(out, a, b'-'),
+        Target::Object(n) => name(out, a, n),
+    }
+}
+
+fn record(out: &mut [u8; 4096], at: usize, r: Record) -> usize {
+    let fields = r.fields;
+    let mut n = text(&mut *out, at, b"record");
+    n = number(&mut *out, n, r.payload as u64);
+    let mut i = 0;
+    while i < 4 {
+        let f = fields[i];
+        let t = f.target;
+        n = target(&mut *out, n, t);
+        i += 1;
+    }
+    end(out, n)
+}
+
+pub fn found(out: &mut [u8; 4096], at: usize, r: Reading) -> usize {
+    let v = r.verdict;
+    let found = r.record;
+    match v {
+        Verdict::Accepted => record(out, at, found),
+        Verdict::Refused(f) => refused(out, at, f),
+    }
+}

@@ -1,0 +1,267 @@
+#!/usr/bin/env python3
+"""Makes the scripts that are not written by hand (paper, stars, limits, logs, random-..), and from model.py the .answers of every script here.
+
+scripts.py            makes them all anew
+scripts.py SEED       writes one random script, for trying more than are stored
+"""
+import random
+import sys
+from pathlib import Path
+
+import model
+
+HEAP = "image 85 | buffer 400 | format 2 4 @ | new 0 0 10 | new 1 0 20 | new 0 1 30 | set 0 0 0 1 0 | set 1 0 0 0 1 | root 0 0 0 | commit @"
+PHASE = "open @ | trace 1 @ | trace 0 @ | trace 1 @ | trace 0 @ | close @ | show"
+
+# Logs as they are, with what is to be seen.
+LOGS = [
+    ("no line at all: 3, line 1", ""),
+    ("no complete line", "heap\t1\t2\t4"),
+    ("no heading", "open\n"),
+    ("a heading of another edition", "heap\t2\t2\t4\n"),
+    ("a heading with spaces, a leading zero, a line too long", "heap 1 2 4\n"),
+    ("", "heap\t1\t02\t4\n"),
+    ("", "heap\t1\t2\t44444444444444444\n"),
+    ("2: P or S out of range, or the length wrong, before line 2 is looked at", "heap\t1\t0\t4\nbad\n"),
+    ("", "heap\t1\t17\t4\nbad\n"),
+    ("", "heap\t1\t2\t65\nbad\n"),
+    ("", "heap\t1\t2\t5\n"),
+    ("an empty heap, and a tail of 20 bytes; 21 are 4, at the line after", "heap\t1\t2\t4\n" + "x" * 20),
+    ("", "heap\t1\t2\t4\n" + "x" * 21),
+    ("a tail of 21 bytes behind a dropped transaction", "heap\t1\t2\t4\nnew\t0\t0\t1\n" + "x" * 21),
+    ("4: an empty line, another keyword, a number too large, a field too many", "heap\t1\t2\t4\n\n"),
+    ("", "heap\t1\t2\t4\nnew\t0\t0\t1\nold\t0\t0\n"),
+    ("", "heap\t1\t2\t4\nval\t0\t0\t4294967296\n"),
+    ("", "heap\t1\t2\t4\nopen\t\n"),
+    ("a body of 20 bytes passes, and of 21 is 4", "heap\t1\t2\t4\nnew\t1\t0\t4294967295\nend\t1\n"),
+    ("", "heap\t1\t2\t4\nset\t1000\t1000\t3\t1000\t1\nend\t1\n"),
+    ("5: a heading again, a collector line within a transaction, an end with no operation", "heap\t1\t2\t4\nheap\t1\t2\t4\n"),
+    ("", "heap\t1\t2\t4\nheap\t1\t99\t0\n"),
+    ("a heading of no edition that there is: 4", "heap\t1\t2\t4\nheap\t2\t2\t4\n"),
+    ("", "heap\t1\t2\t4\nnew\t0\t0\t1\nopen\n"),
+    ("", "heap\t1\t2\t4\nend\t0\n"),
+    ("6: n wrong, before what its operations are refused with", "heap\t1\t2\t4\nnew\t9\t9\t1\nend\t2\n"),
+    ("7, 8, 9 at the operation's own line, judged at the end", "heap\t1\t2\t4\nnew\t0\t0\t1\nnew\t0\t4\t1\nend\t2\n"),
+    ("", "heap\t1\t2\t4\nnew\t0\t0\t1\nnew\t0\t0\t1\nend\t2\n"),
+    ("", "heap\t1\t2\t4\nnew\t0\t0\t1\nval\t0\t1\t1\nend\t2\n"),
+    ("operations of a dropped transaction get none", "heap\t1\t2\t4\nnew\t0\t4\t1\nval\t0\t1\t1\n"),
+    ("a 33rd operation: 6 at its own line", "heap\t1\t2\t4\n" + "unroot\t0\n" * 33),
+    ("32, and no end", "heap\t1\t2\t4\n" + "unroot\t0\n" * 32),
+    ("32, and their end", "heap\t1\t2\t4\n" + "unroot\t0\n" * 32 + "end\t32\n"),
+    ("a shapeless 33rd line: 4", "heap\t1\t2\t4\n" + "unroot\t0\n" * 32 + "unroot\n"),
+    ("collector lines: 12, 10, 11, 13, 14, each with its line", "heap\t1\t2\t4\nopen\n"),
+    ("", "heap\t1\t2\t4\nclose\n"),
+    ("", "heap\t1\t2\t4\nnew\t0\t0\t1\nroot\t0\t0\t0\nend\t2\nopen\nopen\n"),
+    ("", "heap\t1\t2\t4\nnew\t0\t0\t1\nroot\t0\t0\t0\nend\t2\nopen\ntrace\t0\ntrace\t0\n"),
+    ("", "heap\t1\t2\t4\nnew\t0\t0\t1\nroot\t0\t0\t0\nend\t2\nopen\ntrace\t0\nclose\n"),
+    ("trace 2: 7", "heap\t1\t2\t4\nnew\t0\t0\t1\nroot\t0\t0\t0\nend\t2\nopen\ntrace\t2\n"),
+    ("an open phase", "heap\t1\t2\t4\nnew\t0\t0\t1\nroot\t0\t0\t0\nend\t2\nopen\ntrace\t0\nnew\t1\t1\t5\nend\t1\ntra"),
+]
+
+
+def acted(text):
+    """The lines of a text, with the log's end as it then is for each @."""
+    shell, end, lines = model.Shell(), 0, []
+    for line in text.split(" | "):
+        if line.startswith("buffer"):
+            end = 0
+        answer = shell.line(line.replace("@", str(end)).encode()).decode().split()
+        lines.append(line.replace("@", str(end)))
+        end += int(answer[1]) if answer[:1] == ["done"] else 0
+    return lines
+
+
+def paper():
+    """The paper's example acted out, then recovered at every byte of its log."""
+    lines = ["# The paper's example, acted out: the records stand one after the other, and the log has 132 bytes.", *acted(HEAP + " | " + PHASE)]
+    lines += ["digest", "log 132", "# Its log, cut at every byte, recovered into the words that the recovery before left."]
+    for cut in range(133):
+        lines += ["recover %d" % cut, "digest"]
+        lines += ["show"] if cut in (10, 11, 88, 89, 94, 132) else []
+    return lines
+
+
+def stars():
+    """The paper's numbers with a star, acted out."""
+    alone = "image 85 | buffer 400 | format 2 4 @ | new 0 0 1 | new 1 0 2 | root 0 0 0 | commit @"
+    return [
+        "# Object (1,0) begins at word 61, and its name is 65: allowance 4, count 4, none freed.",
+        *acted(HEAP + " | open @ | word 61 2 | word 61 1 | read 0 0 | show | trace 1 @ | trace 0 @ | trace 1 @ | trace 0 @ | close @"),
+        "# With an unreferenced (1,1): allowance 5, 1 freed.",
+        *acted(HEAP + " | new 1 1 40 | commit @ | open @ | show | trace 1 @ | trace 0 @ | trace 1 @ | trace 0 @ | close @ | show"),
+        "# With, instead, a cycle that no root reaches: 2 freed.",
+        *acted(HEAP + " | new 0 2 1 | new 1 2 2 | set 0 2 0 1 2 | set 1 2 3 0 2 | commit @ | ask 0 2 | ask 1 0 | " + PHASE),
+        "# A store in a phase marks its target, and its partition is not clean: close answers 14 and 1, then count 3, none freed.",
+        *acted(alone + " | open @ | trace 0 @ | trace 1 @ | set 0 0 0 1 0 | commit @ | show | close @ | trace 1 @ | close @ | show"),
+        "# Two roots on one object, no other: the allowance is P.",
+        *acted("image 85 | buffer 400 | format 2 4 @ | new 1 3 9 | root 2 1 3 | root 9 1 3 | commit @ | open @ | show"),
+        "# The last root taken away in a phase: close 12.",
+        *acted(alone + " | open @ | trace 0 @ | trace 1 @ | unroot 0 | commit @ | close @"),
+        "# Open on an empty heap: 12. Trace twice running: 13.",
+        *acted("image 85 | buffer 400 | format 2 4 @ | open @ | new 0 0 1 | root 0 0 0 | commit @ | open @ | trace 0 @ | trace 0 @"),
+        "# In a phase an object is born marked; a store marks even where the field held its target; birth, clr, val and unroot change no flag.",
+        *acted(alone + " | root 1 1 0 | commit @ | open @ | trace 0 @ | trace 1 @ | new 0 3 3 | val 1 0 7 | clr 0 0 1 | unroot 1 | commit @ | show | set 0 0 0 0 0 | root 4 0 3 | commit @ | close @ | show"),
+        "# A trace stays within its partition, and then marks what lies just outside it, no further.",
+        *acted(HEAP + " | new 0 2 1 | new 0 3 1 | set 0 0 1 0 2 | set 0 2 0 0 3 | set 0 3 0 0 0 | commit @ | open @ | trace 0 @ | show | trace 1 @ | show"),
+    ]
+
+
+def limits():
+    """The largest of everything: 6,181 words, 65,536 bytes, 32 operations, the largest numbers."""
+    text = "image 6181 | buffer 65536 | format 16 64 65524 | format 17 64 0 | format 16 65 0 | format 16 64 65523 | digest | format 16 64 0"
+    text += " | new 15 63 4294967295 | new 0 0 0 | set 15 63 3 15 63 | root 15 15 63 | commit 13 | read 15 63 | ask 15 63 | ask 0 0 | log 82"
+    text += "".join(" | new 1 %d %d" % (i, i) for i in range(32)) + " | commit 82"
+    text += "".join(" | new 2 %d %d" % (i, i) for i in range(33)) + " | commit 600 | commit 600"
+    text += "".join(" | val 0 0 %d" % i for i in range(70)) + " | commit 600 | read 2 0 | read 0 0 | read 1 31"
+    # a chain down through all partitions: traced from the lowest up, each turn gets one further
+    text += "".join(" | new %d 63 0" % p for p in range(15)) + "".join(" | set %d 63 0 %d 63" % (p + 1, p) for p in range(15)) + " | commit 600 | ask 0 63 | open 1000"
+    turn = "".join(" | trace %d 1010" % p for p in range(16))
+    text += turn * 3 + " | close 2000" + turn * 13 + " | close 2000 | show | digest"
+    return text.split(" | ")
+
+
+def logs():
+    """Logs that were never written by a call."""
+    lines = ["# Recovery of any bytes, into any words of the right length; refused, it leaves zeros. Each log stands before its recovery.", "image 85", "word 0 9", "word 84 9", "buffer 500"]
+    for remark, log in LOGS:
+        lines += ["# " + remark] if remark else []
+        lines += ["bytes 0 " + " ".join(map(str, log.encode()))] if log else []
+        lines += ["recover %d" % len(log.encode()), "digest"]
+    return lines + ["show", "# a wrong length is 2 before line 2, and zeros too", "image 84", "word 83 5", "recover 30", "digest", "image 0", "recover 30", "recover 0", "digest"]
+
+
+class Writer:
+    """A random script, led by the model: mostly what is accepted, with all kinds of mistakes among it."""
+
+    def __init__(self, seed):
+        self.r = random.Random(seed)
+        self.shell, self.lines, self.end = model.Shell(), [], 0
+
+    def say(self, line):
+        self.lines.append(line)
+        return self.shell.line(line.encode()).decode("latin-1").split()
+
+    def logged(self, line):
+        """A call that writes: mostly at the log's end, so that the buffer holds a true log."""
+        at = self.end if self.r.random() < 0.93 else self.r.choice([0, len(self.shell.log), len(self.shell.log) - 3, self.r.randrange(70000), model.MOST])
+        answer = self.say("%s %d" % (line, max(at, 0)))
+        if answer[0] == "done":
+            self.end = at + int(answer[1])
+        elif self.r.random() < 0.5:
+            self.say("digest")
+        return answer[0] == "done"
+
+    def name(self, used):
+        """A partition and a slot, mostly one in use (or free)."""
+        heap = model.Heap(self.shell.words)
+        if self.r.random() < 0.04 or not heap.sound():
+            return "%d %d" % (self.r.choice([0, 1, 15, 16, 17, model.MOST]), self.r.choice([0, 1, 63, 64, 65, model.MOST]))
+        made = {tuple(op[1:3]) for op in self.shell.waiting if op[0] == "new"}
+        fit = [(p, s) for p, s, a in heap.objects() if (bool(heap.w[a]) or (p, s) in made) == used]
+        fit = fit if fit and self.r.random() < 0.95 else [(p, s) for p, s, _ in heap.objects()]
+        return "%d %d" % self.r.choice(fit)
+
+    def operation(self):
+        r = self.r
+        value = r.choice([0, 1, 7, r.randrange(1000), model.MOST])
+        field = r.randrange(4) if r.random() < 0.98 else r.choice([4, model.MOST])
+        root = r.randrange(16) if r.random() < 0.98 else r.choice([16, model.MOST])
+        kind = r.choices(["new", "set", "clr", "val", "root", "unroot"], [5, 7, 2, 1, 3, 1])[0]
+        return {
+            "new": "new %s %d" % (self.name(False), value),
+            "set": "set %s %d %s" % (self.name(True), field, self.name(True)),
+            "clr": "clr %s %d" % (self.name(True), field),
+            "val": "val %s %d" % (self.name(True), value),
+            "root": "root %d %s" % (root, self.name(True)),
+            "unroot": "unroot %d" % root,
+        }[kind]
+
+    def commit(self):
+        for _ in range(self.r.choice([1, 1, 2, 3, 5, 8, 32, 33, 0]) if self.r.random() < 0.4 else self.r.randrange(1, 6)):
+            self.say(self.operation())
+        self.logged("commit")
+
+    def phase(self):
+        """A phase: opened, traced mostly until every partition is clean, closed; commits between."""
+        if not self.logged("open") and self.r.random() < 0.8:
+            return
+        parts = self.shell.words[0] if self.shell.words else 1
+        for _ in range(self.r.randrange(4 * parts + 4)):
+            if self.r.random() < 0.15:
+                self.commit()
+            unclean = [p for p in range(min(parts, 16)) if len(self.shell.words) > 36 and not self.shell.words[21 + p]]
+            if not unclean and self.r.random() < 0.9:
+                break
+            self.logged("trace %d" % (self.r.choice(unclean) if unclean and self.r.random() < 0.95 else self.r.randrange(18)))
+        if self.r.random() < 0.9:
+            self.logged("close")
+
+    def recovery(self):
+        """Recovery of a cut, at times of a log with a byte changed; mostly the whole log afterwards, so that the script goes on."""
+        if self.r.random() < 0.3 and self.end:
+            at = self.r.randrange(self.end)
+            before = self.shell.log[at]
+            self.say("bytes %d %d" % (at, self.r.choice([9, 10, 32, 48, 49, 57, 97, self.r.randrange(256)])))
+            self.say("recover %d" % self.r.randrange(at, self.end + 1))
+            self.say("digest")
+            self.say("bytes %d %d" % (at, before))
+        self.say("recover %d" % min(self.r.randrange(self.end + 1), len(self.shell.log)))
+        self.say("digest")
+        answer = self.say("recover %d" % min(self.end, len(self.shell.log)))
+        self.end = int(answer[1]) if answer[0] == "kept" else 0
+        if answer[0] != "kept":
+            self.start()
+
+    def damage(self):
+        """A word changed by hand, every call tried, and the word put back."""
+        at = self.r.choice([self.r.randrange(37), self.r.randrange(len(self.shell.words))])
+        before = self.shell.words[at]
+        self.say("word %d %d" % (at, self.r.choice([0, 1, 2, 3, 64, 65, model.MOST])))
+        for line in ("read %s" % self.name(True), "ask %s" % self.name(True), "show"):
+            self.say(line)
+        self.logged(self.r.choice(["open", "trace 0", "close", "commit"]))
+        self.say("word %d %d" % (at, before))
+
+    def start(self):
+        """A formatted heap with one object that a root names."""
+        self.logged(self.heading)
+        self.say("new %s 1" % self.name(False))
+        self.say("root 0 %s" % self.name(True))
+        self.logged("commit")
+
+    def script(self):
+        r = self.r
+        parts, slots = r.choice([(1, 1), (1, 4), (2, 3), (2, 4), (3, 2), (4, 4), (16, 2), (2, 64), (r.randrange(1, 17), r.randrange(1, 9))])
+        self.say("image %d" % (37 + 6 * parts * slots))
+        self.say("buffer %d" % r.choice([300, 4000, 20000, 65536]))
+        self.heading = "format %d %d" % (parts, slots)
+        self.start()
+        for _ in range(r.randrange(20, 60)):
+            act = r.choices([self.commit, self.phase, self.recovery, self.damage, self.asking, self.mistake], [12, 4, 2, 2, 5, 1])[0]
+            act()
+            if r.random() < 0.3:
+                self.say("digest")
+        self.say("show")
+        self.say("digest")
+        self.say("log %d" % min(self.end, len(self.shell.log)))
+        return "\n".join(self.lines) + "\n"
+
+    def asking(self):
+        for _ in range(self.r.randrange(1, 4)):
+            self.say("%s %s" % (self.r.choice(["read", "ask"]), self.name(True)))
+
+    def mistake(self):
+        self.say(self.r.choice(["read 0", "ask 0 0 0", "set 0 0 0 0", "word 6181 0", "recover 65537", "comit 0", "new 00 0 1", "val 0 -1 3", "bytes 0", "bytes 0 256", "log x", "", "# remark", "  \t", "\tread\t0  0 "]))
+
+
+if __name__ == "__main__":
+    here = Path(__file__).parent
+    if len(sys.argv) == 2:
+        print(Writer(int(sys.argv[1])).script(), end="")
+    else:
+        for make in (paper, stars, limits, logs):
+            (here / (make.__name__ + ".script")).write_text("\n".join(make()) + "\n")
+        for seed in range(1, 25):
+            (here / ("random-%02d.script" % seed)).write_text(Writer(seed).script())
+        for script in here.glob("*.script"):
+            script.with_suffix(".answers").write_bytes(model.play(script.read_bytes()))
