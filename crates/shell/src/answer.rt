@@ -104,9 +104,9 @@ fn record(out: &mut [u8; 4096], at: usize, r: Record) -> usize {
 
 pub fn found(out: &mut [u8; 4096], at: usize, r: Reading) -> usize {
     let v = r.verdict;
-    let found = r.record;
+    let object = r.object;
     match v {
-        Verdict::Accepted => record(out, at, found),
+        Verdict::Accepted => record(out, at, object),
         Verdict::Refused(f) => refused(out, at, f),
     }
 }
