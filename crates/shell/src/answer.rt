@@ -15,16 +15,16 @@ use kinds::Target;
 use kinds::Verdict;
 use recovery::Recovery;
 
-pub fn what(out: &mut [u8; 4096], at: usize) -> usize {
+pub(crate) fn what(out: &mut [u8; 4096], at: usize) -> usize {
     text(out, at, b"what?\n")
 }
 
-pub fn ok(out: &mut [u8; 4096], at: usize) -> usize {
+pub(crate) fn ok(out: &mut [u8; 4096], at: usize) -> usize {
     text(out, at, b"ok\n")
 }
 
 // A word, a number and the line end.
-pub fn counted(out: &mut [u8; 4096], at: usize, word: &[u8], n: usize) -> usize {
+pub(crate) fn counted(out: &mut [u8; 4096], at: usize, word: &[u8], n: usize) -> usize {
     let a = text(&mut *out, at, word);
     let b = number(&mut *out, a, n as u64);
     end(out, b)
@@ -37,14 +37,14 @@ fn refused(out: &mut [u8; 4096], at: usize, r: Refusal) -> usize {
     end(out, c)
 }
 
-pub fn answered(out: &mut [u8; 4096], at: usize, a: Answer) -> usize {
+pub(crate) fn answered(out: &mut [u8; 4096], at: usize, a: Answer) -> usize {
     match a {
         Answer::Done(n) => counted(out, at, b"done", n),
         Answer::Refused(r) => refused(out, at, r),
     }
 }
 
-pub fn closed(out: &mut [u8; 4096], at: usize, c: Closing) -> usize {
+pub(crate) fn closed(out: &mut [u8; 4096], at: usize, c: Closing) -> usize {
     match c {
         Closing::Closed(n, traces, freed) => {
             let a = text(&mut *out, at, b"done");
@@ -57,14 +57,14 @@ pub fn closed(out: &mut [u8; 4096], at: usize, c: Closing) -> usize {
     }
 }
 
-pub fn recovered(out: &mut [u8; 4096], at: usize, r: Recovery) -> usize {
+pub(crate) fn recovered(out: &mut [u8; 4096], at: usize, r: Recovery) -> usize {
     match r {
         Recovery::Kept(n) => counted(out, at, b"kept", n),
         Recovery::Refused(f) => refused(out, at, f),
     }
 }
 
-pub fn asked(out: &mut [u8; 4096], at: usize, a: Asked) -> usize {
+pub(crate) fn asked(out: &mut [u8; 4096], at: usize, a: Asked) -> usize {
     match a {
         Asked::Yes => text(out, at, b"yes\n"),
         Asked::No => text(out, at, b"no\n"),
@@ -73,14 +73,14 @@ pub fn asked(out: &mut [u8; 4096], at: usize, a: Asked) -> usize {
 }
 
 // An object's name, as p.s.
-pub fn name(out: &mut [u8; 4096], at: usize, n: Name) -> usize {
+pub(crate) fn name(out: &mut [u8; 4096], at: usize, n: Name) -> usize {
     let a = decimal(&mut *out, at, n.partition.0 as u64);
     let b = byte(&mut *out, a, b'.');
     decimal(out, b, n.slot.0 as u64)
 }
 
 // A space and what a field or a root holds: `-` for nothing.
-pub fn target(out: &mut [u8; 4096], at: usize, t: Target) -> usize {
+pub(crate) fn target(out: &mut [u8; 4096], at: usize, t: Target) -> usize {
     let a = byte(&mut *out, at, b' ');
     match t {
         Target::Nothing => byte(out, a, b'-'),
@@ -102,7 +102,7 @@ fn record(out: &mut [u8; 4096], at: usize, r: Record) -> usize {
     end(out, n)
 }
 
-pub fn found(out: &mut [u8; 4096], at: usize, r: Reading) -> usize {
+pub(crate) fn found(out: &mut [u8; 4096], at: usize, r: Reading) -> usize {
     let v = r.verdict;
     let object = r.object;
     match v {

@@ -84,7 +84,7 @@ fn made(
 }
 
 // The same, of which the first m words and the first n bytes are lent.
-pub fn call(
+pub(crate) fn call(
     k: Call,
     words: &mut [u32],
     m: usize,

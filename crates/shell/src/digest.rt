@@ -37,7 +37,7 @@ fn of_bytes(bytes: &[u8]) -> u64 {
     h
 }
 
-pub fn digest(out: &mut [u8; 4096], at: usize, words: &[u32], bytes: &[u8]) -> usize {
+pub(crate) fn digest(out: &mut [u8; 4096], at: usize, words: &[u32], bytes: &[u8]) -> usize {
     let a = text(&mut *out, at, b"digest");
     let b = number(&mut *out, a, of_words(words));
     let c = number(&mut *out, b, of_bytes(bytes));

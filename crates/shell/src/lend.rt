@@ -13,20 +13,20 @@ pub const WORDS: usize = 6181;
 
 pub const BYTES: usize = 65536;
 
-pub fn words() -> [u32; 6181]
+pub(crate) fn words() -> [u32; 6181]
     ensures { λ r. ⌜ 6181 ≡ length r ⌝ }
 {
     [0; 6181]
 }
 
-pub fn bytes() -> [u8; 65536]
+pub(crate) fn bytes() -> [u8; 65536]
     ensures { λ r. ⌜ 65536 ≡ length r ⌝ }
 {
     [0; 65536]
 }
 
 // The first n words become 0.
-pub fn clear_words(words: &mut [u32], n: usize)
+pub(crate) fn clear_words(words: &mut [u32], n: usize)
     requires { ⌜ n ≤ length (now words) ⌝ }
 {
     let mut i = 0;
@@ -37,7 +37,7 @@ pub fn clear_words(words: &mut [u32], n: usize)
 }
 
 // The first n bytes become 46.
-pub fn clear_bytes(bytes: &mut [u8], n: usize)
+pub(crate) fn clear_bytes(bytes: &mut [u8], n: usize)
     requires { ⌜ n ≤ length (now bytes) ⌝ }
 {
     let mut i = 0;
@@ -47,7 +47,7 @@ pub fn clear_bytes(bytes: &mut [u8], n: usize)
     }
 }
 
-pub fn word(words: &mut [u32], i: usize, v: u32, out: &mut [u8; 4096], at: usize) -> usize {
+pub(crate) fn word(words: &mut [u32], i: usize, v: u32, out: &mut [u8; 4096], at: usize) -> usize {
     if i < words.len() {
         words[i] = v;
         return ok(out, at);
@@ -113,7 +113,7 @@ fn stored(line: &[u8], from: usize, buffer: &mut [u8]) -> bool {
 }
 
 // `bytes`, of whose words those from a place of the line on are the numbers; n bytes are lent.
-pub fn put_bytes(
+pub(crate) fn put_bytes(
     line: &[u8],
     from: usize,
     buffer: &mut [u8],

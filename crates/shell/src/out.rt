@@ -2,11 +2,11 @@
 // bytes wait; each function answers how many wait then.
 pub const ROOM: usize = 4096;
 
-pub fn space() -> [u8; 4096] {
+pub(crate) fn space() -> [u8; 4096] {
     [0; 4096]
 }
 
-pub fn byte(out: &mut [u8; 4096], at: usize, b: u8) -> usize {
+pub(crate) fn byte(out: &mut [u8; 4096], at: usize, b: u8) -> usize {
     if at < ROOM {
         out[at] = b;
         return at + 1;
@@ -16,7 +16,7 @@ pub fn byte(out: &mut [u8; 4096], at: usize, b: u8) -> usize {
     1
 }
 
-pub fn text(out: &mut [u8; 4096], at: usize, bytes: &[u8]) -> usize {
+pub(crate) fn text(out: &mut [u8; 4096], at: usize, bytes: &[u8]) -> usize {
     let mut n = at;
     let mut i = 0;
     while i < bytes.len() {
@@ -26,19 +26,19 @@ pub fn text(out: &mut [u8; 4096], at: usize, bytes: &[u8]) -> usize {
     n
 }
 
-pub fn decimal(out: &mut [u8; 4096], at: usize, v: u64) -> usize {
+pub(crate) fn decimal(out: &mut [u8; 4096], at: usize, v: u64) -> usize {
     let mut digits = [0u8; 20];
     let k = io::decimal(v, &mut digits);
     text(out, at, &digits[..k])
 }
 
 // A space and a number.
-pub fn number(out: &mut [u8; 4096], at: usize, v: u64) -> usize {
+pub(crate) fn number(out: &mut [u8; 4096], at: usize, v: u64) -> usize {
     let n = byte(&mut *out, at, b' ');
     decimal(out, n, v)
 }
 
-pub fn end(out: &mut [u8; 4096], at: usize) -> usize {
+pub(crate) fn end(out: &mut [u8; 4096], at: usize) -> usize {
     byte(out, at, b'\n')
 }
 
@@ -52,6 +52,6 @@ fn write_front(bytes: &[u8], n: usize) {
 }
 
 // Writes what waits.
-pub fn flush(out: &[u8; 4096], at: usize) {
+pub(crate) fn flush(out: &[u8; 4096], at: usize) {
     write_front(out, at);
 }

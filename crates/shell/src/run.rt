@@ -216,7 +216,7 @@ fn lines(script: &[u8], out: &mut [u8; 4096]) -> usize {
 }
 
 // The whole script, and all that it writes.
-pub fn run(script: &[u8]) {
+pub(crate) fn run(script: &[u8]) {
     let mut out = space();
     let put = lines(script, &mut out);
     flush(&out, put);

@@ -166,7 +166,7 @@ fn objects(out: &mut [u8; 4096], at: usize, words: &[u32]) -> usize {
     n
 }
 
-pub fn show(out: &mut [u8; 4096], at: usize, words: &[u32]) -> usize {
+pub(crate) fn show(out: &mut [u8; 4096], at: usize, words: &[u32]) -> usize {
     if soundness::sound(words) {
         let mut n = head(&mut *out, at, words);
         n = roots(&mut *out, n, words);
