@@ -83,6 +83,11 @@ Settled [] = Unit {0}
 Settled (given n e C ∷ rows) = Settled rows
 Settled (telling n E ∷ rows) = ((p q : ℕ) → E p → E q → p ≡ q) × Settled rows
 
+pub settled-then : (rows more : List Row) → Settled rows → Settled more → Settled (rows ++ more)
+settled-then [] more d m = m
+settled-then (given n e C ∷ rows) more d m = settled-then rows more d m
+settled-then (telling n E ∷ rows) more d m = (d .0, settled-then rows more (d .1) m)
+
 module _ {A : Type 0} (z v : A) where
   pub first-found : (rows : List Row) (u : Verdict) → Found rows u → First z v rows (telled z v u)
   unfolding Found

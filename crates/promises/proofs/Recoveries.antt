@@ -26,16 +26,16 @@ use Rattle.model.specs.Judge.{check, andThen, judgeFormat, judgeOp, judgeOps, l
 use Rattle.model.specs.Sound.{SoundAt}
 use Rattle.model.proofs.Keys.{blank-partitions, blank-slots}
 use Rattle.model.proofs.SoundnessActs.{act-sound, act-partitions, act-slots, blank-sound}
-use Rattle.journal.specs.Recover.{Rule, rule, Stand, early, going, stopped, lineAt, told, act, alone, ended, formed, headed, next, reader, feed, feedAll, tailOk, recovery, refusal, close, answer, recoverOf}
+use Rattle.journal.specs.Recover.{Rule, rule, Stand, early, going, stopped, lineAt, told, act, alone, ended, formed, headed, next, Reader, reader, feed, feedAll, tailOk, recovery, refusal, close, answer, recoverOf}
 use Rattle.journal.proofs.Looping.{at-once}
-use Rattle.catalogue.specs.Answers.{refusedWith}
+use Rattle.catalogue.specs.Answers.{Said, refusedWith}
 use Rattle.promises.specs.Rows.{Row, given, First, Lowest, operationsRows}
 use Rattle.promises.specs.Recovering.{sizeRows, Waiting, actRows, lineRows, tailRows, recoverRows, saidKept, saidRecovered}
 use Rattle.promises.proofs.Books.{Headed, format-limits}
 use Rattle.promises.proofs.Conditions.{test-lt, test-le, test-eq, test-ne, test-size, test-open, test-shut, test-rooted, test-unclean, found-lowest, none-lowest, test-led}
 use Rattle.promises.proofs.Leaving.{refused-recovery}
-use Rattle.promises.proofs.Listing.{Tests, Found, found-none, found-here, found-later, found-check, found-then, found-stays, telled, first-found}
-use Rattle.promises.proofs.Refusals.{found-operations}
+use Rattle.promises.proofs.Listing.{Tests, Settled, settled-then, Found, found-none, found-here, found-later, found-check, found-then, found-stays, telled, first-found, exactly}
+use Rattle.promises.proofs.Refusals.{found-operations, settled-operations}
 
 -- a verdict whose extra answer is said in another way
 abbrev mapped : (ℕ → ℕ) → Verdict → Verdict
@@ -308,3 +308,43 @@ recover-first log len = subst (First 0 kept rows) (same (recoverOf log len .verd
     same : (v : Verdict) → (recoverOf log len) .verdict ≡ v → telled 0 kept v ≡ saidKept v kept
     same Accepted e = refl
     same (Refused r) e = ap (λ (k : ℕ). refusedWith k r) (sym (refused-recovery log len (λ q. unlike (sym e ∙ q)) .1))
+
+-- every extra answer is the line, so that the lists leave it no choice
+settled-act : (h : Rule) (y : Image) (w : List Op) (n : ℕ) (l : Line) → Settled (actRows h y w n l)
+settled-act h y w n (Heading e P S) = tt
+settled-act h y w n (Operation o) = tt
+settled-act h y w n (End k) = settled-operations (h .P) (h .S) y (n - length w + 1) w
+settled-act h y w n Open = tt
+settled-act h y w n (Trace p) = tt
+settled-act h y w n Close = tt
+settled-act h y w n Bad = tt
+
+settled-size : (len : ℕ) (l : Line) → Settled (sizeRows len l)
+settled-size len (Heading e P S) = tt
+settled-size len (Operation o) = tt
+settled-size len (End k) = tt
+settled-size len Open = tt
+settled-size len (Trace p) = tt
+settled-size len Close = tt
+settled-size len Bad = tt
+
+settled-line : (len : ℕ) (s : Stand) (l : Line) (b : Bool) → Settled (cond b (lineRows len s l) [])
+settled-line len early l true = settled-size len l
+settled-line len (going h y w n kept) l true = settled-act h y w n l
+settled-line len (stopped k x) l true = tt
+settled-line len s l false = tt
+
+settled-tail : (s : Stand) (t : List ℕ) → Settled (tailRows s t)
+settled-tail early t = tt
+settled-tail (going h y w n kept) t = tt
+settled-tail (stopped k x) t = tt
+
+settled-recover : (len : ℕ) (r : Reader) (bs : List ℕ) → Settled (recoverRows len r bs)
+settled-recover len r [] = settled-tail (r .stand) (r .part)
+settled-recover len r (b ∷ bs) =
+    settled-then (cond (eqb b 10) (lineRows len (r .stand) (lineOf (r .part))) []) _ (settled-line len (r .stand) (lineOf (r .part)) (eqb b 10))
+    (settled-recover len (feed len r b) bs)
+
+pub recover-exactly : (log : List ℕ) (len : ℕ) (s : Said ℕ) → First 0 ((recoverOf log len) .kept) (recoverRows len (reader early [] 0) log) s → s ≡ saidRecovered (recoverOf log len)
+recover-exactly log len s f =
+    exactly 0 ((recoverOf log len) .kept) (recoverRows len (reader early [] 0) log) (settled-recover len (reader early [] 0) log) s _ f (recover-first log len)

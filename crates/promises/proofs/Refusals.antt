@@ -1,5 +1,5 @@
 -- Demand 1, the table of refusals: what each call says is what its list says, the number of the first row whose condition holds with its extra answer and
--- nothing beside, and accepted with its values where no condition holds. `exactly` (Listing) says that a list says one thing only.
+-- nothing beside, and accepted with its values where no condition holds (`-first`); and the list determines it: nothing else may be said (`-exactly`).
 -- Assumes nothing.
 use Prim.Native.Nat.{ℕ, _+_, _*_, _≤_}
 use mathlib.Core.Path.{_≡_, refl, sym, subst}
@@ -29,11 +29,11 @@ use Rattle.model.specs.Sound.{isSound}
 use Rattle.writer.specs.Record.{recordOf, headingOf}
 use Rattle.catalogue.specs.declared.Answer.the-variants.{Done, Refused as NotDone}
 use Rattle.catalogue.specs.declared.Closing.the-variants.{Refused as NotClosed}
-use Rattle.catalogue.specs.Answers.{said, totals, saidClosing, saidReading, saidAsked}
+use Rattle.catalogue.specs.Answers.{Said, said, Totals, totals, saidClosing, saidReading, saidAsked}
 use Rattle.catalogue.specs.Call.{judgeAct, judgeCommit, judgeObject, formatOf, callOf, commitOf, openOf, traceOf, closed, closeOf, reading, readingOf, asked, askedOf}
 use Rattle.promises.specs.Rows.{Row, given, telling, First, Unsound, WrongCount, NoRoom, Lowest, formatRows, operationRows, operationsRows, commitRows, openRows, traceRows, closeRows, objectRows}
 use Rattle.promises.proofs.Conditions.{test-lt, test-le, test-ne, test-both, test-as, test-sound, test-size, test-name, test-target, test-free, test-used, test-target-used, test-open, test-shut, test-rooted, test-unclean, found-lowest, none-lowest, one-lowest, test-led}
-use Rattle.promises.proofs.Listing.{Tests, Settled, Found, found-none, found-check, found-tell, found-then, telled, first-found, said-perform}
+use Rattle.promises.proofs.Listing.{Tests, Settled, settled-then, Found, found-none, found-check, found-tell, found-then, telled, first-found, exactly, said-perform}
 
 -- 17, judged last
 found-room : (bytes log : List ℕ) (at : ℕ) → Found (given 17 0 (NoRoom bytes at log) ∷ []) (check (leb (at + length bytes) (length log)) 17 0 Accepted)
@@ -55,6 +55,22 @@ unfolding judgeOps
 found-operations P S img e [] = found-none
 found-operations P S img e (o ∷ os) =
     found-then (operationRows P S img e o) (operationsRows P S (perform S img o) (e + 1) os) _ _ (found-operation P S img e o) (found-operations P S (perform S img o) (e + 1) os)
+
+-- a commit's list leaves no extra answer a choice
+settled-operation : (P S : ℕ) (img : Image) (e : ℕ) (o : Operation) → Settled (operationRows P S img e o)
+settled-operation P S img e (New n v) = tt
+settled-operation P S img e (Set n k t) = tt
+settled-operation P S img e (Val n v) = tt
+settled-operation P S img e (Root r t) = tt
+
+pub settled-operations : (P S : ℕ) (img : Image) (e : ℕ) (os : List Operation) → Settled (operationsRows P S img e os)
+settled-operations P S img e [] = tt
+settled-operations P S img e (o ∷ os) =
+    settled-then (operationRows P S img e o) (operationsRows P S (perform S img o) (e + 1) os) (settled-operation P S img e o) (settled-operations P S (perform S img o) (e + 1) os)
+
+settled-commit : (img : Image) (ops : List Operation) (n : ℕ) (log : List ℕ) (at : ℕ) → Settled (commitRows img ops n log at)
+settled-commit img ops n log at =
+    settled-then (operationsRows (get img partitions) (get img slots) img 1 (take n ops)) _ (settled-operations (get img partitions) (get img slots) img 1 (take n ops)) tt
 
 -- 6: of 32 operations the first n
 check-both : (a b : Bool) (n e : ℕ) (u : Verdict) → check (both a b) n e u ≡ check a n e (check b n e u)
@@ -82,6 +98,10 @@ format-first img P S log at =
     (first-found 0 (length (headingOf P S)) (formatRows img P S log at) _
     (found-then (given 2 0 _ ∷ []) (given 17 0 _ ∷ []) _ _ (found-check _ 2 0 _ _ _ (test-size P S (lengthOf img)) found-none) (found-room (headingOf P S) log at)))
 
+pub format-exactly : (img : Image) (P S : ℕ) (log : List ℕ) (at : ℕ) (s : Said ℕ) → First 0 (length (headingOf P S)) (formatRows img P S log at) s
+    → s ≡ said ((formatOf img P S log at) .answer)
+format-exactly img P S log at s f = exactly 0 (length (headingOf P S)) (formatRows img P S log at) tt s _ f (format-first img P S log at)
+
 -- COMMIT of the first n of 32 operations
 found-commit : (img : Image) (ops : List Operation) (n : ℕ) → length ops ≡ mostOperations
     → Found (given 1 0 (Unsound img) ∷ given 6 0 (WrongCount n) ∷ operationsRows (get img partitions) (get img slots) img 1 (take n ops)) (judgeCommit img ops n)
@@ -103,6 +123,11 @@ commit-first img ops n log at full =
     (found-then (given 1 0 _ ∷ given 6 0 _ ∷ operationsRows (get img partitions) (get img slots) img 1 (take n ops)) (given 17 0 _ ∷ []) _ _
     (found-commit img ops n full) (found-room bytes log at)))
 
+pub commit-exactly : (img : Image) (ops : List Operation) (n : ℕ) (log : List ℕ) (at : ℕ) → length ops ≡ mostOperations
+    → (s : Said ℕ) → First 0 (length (recordOf (commit (take n ops)))) (commitRows img ops n log at) s → s ≡ said ((commitOf img ops n log at) .answer)
+commit-exactly img ops n log at full s f =
+    exactly 0 (length (recordOf (commit (take n ops)))) (commitRows img ops n log at) (settled-commit img ops n log at) s _ f (commit-first img ops n log at full)
+
 -- OPEN
 pub open-first : (img : Image) (log : List ℕ) (at : ℕ) → First 0 (length (recordOf opening)) (openRows img log at) (said ((openOf img log at) .answer))
 unfolding callOf judgeAct judge
@@ -112,6 +137,9 @@ open-first img log at =
     (found-then (given 1 0 _ ∷ given 11 0 _ ∷ given 12 0 _ ∷ []) (given 17 0 _ ∷ []) _ _
     (found-check _ 1 0 _ _ _ (test-sound img) (found-check _ 11 0 _ _ _ (test-shut img) (found-check _ 12 0 _ _ _ (test-rooted img) found-none)))
     (found-room (recordOf opening) log at)))
+
+pub open-exactly : (img : Image) (log : List ℕ) (at : ℕ) (s : Said ℕ) → First 0 (length (recordOf opening)) (openRows img log at) s → s ≡ said ((openOf img log at) .answer)
+open-exactly img log at s f = exactly 0 (length (recordOf opening)) (openRows img log at) tt s _ f (open-first img log at)
 
 -- TRACE
 pub trace-first : (img : Image) (p : Partition) (log : List ℕ) (at : ℕ)
@@ -126,6 +154,10 @@ trace-first img p log at =
     (found-check _ 7 0 _ _ _ (test-lt (p .0) (get img partitions))
     (found-check _ 13 0 _ _ _ (test-unclean img (p .0)) (found-check _ 15 0 _ _ _ (test-ne (get img count) (get img allowance)) found-none)))))
     (found-room (recordOf (trace (p .0))) log at)))
+
+pub trace-exactly : (img : Image) (p : Partition) (log : List ℕ) (at : ℕ) (s : Said ℕ) → First 0 (length (recordOf (trace (p .0)))) (traceRows img p log at) s
+    → s ≡ said ((traceOf img p log at) .answer)
+trace-exactly img p log at s f = exactly 0 (length (recordOf (trace (p .0)))) (traceRows img p log at) tt s _ f (trace-first img p log at)
 
 -- CLOSE, which answers the count and the number freed
 pub close-first : (img : Image) (log : List ℕ) (at : ℕ)
@@ -142,6 +174,11 @@ close-first img log at =
     (found-tell _ 14 (lowest (get img partitions) img) _ (Lowest img) _ (λ e. found-lowest img (eqb-false _ _ e)) (λ e. none-lowest img (eqb-true _ _ e))
     (found-check _ 16 0 _ _ _ (test-led img) found-none)))))
     (found-room (recordOf closing) log at)))
+
+pub close-exactly : (img : Image) (log : List ℕ) (at : ℕ) (s : Said Totals)
+    → First (totals 0 0 0) (totals (length (recordOf closing)) (get img count) (unmarked (get img partitions * get img slots) img)) (closeRows img log at) s
+    → s ≡ saidClosing ((closeOf img log at) .answer)
+close-exactly img log at s f = exactly (totals 0 0 0) _ (closeRows img log at) (one-lowest img, tt) s _ f (close-first img log at)
 
 -- READ and ASK
 found-object : (img : Image) (n : Name) → Found (objectRows img n) (judgeObject img n)
@@ -161,6 +198,9 @@ read-first img n = go (judgeObject img n) (first-found _ _ (objectRows img n) _ 
     go Accepted f = f
     go (Refused x) f = f
 
+pub read-exactly : (img : Image) (n : Name) (s : Said Record) → First blankRecord (readOf img (place (get img slots) n)) (objectRows img n) s → s ≡ saidReading (readingOf img n)
+read-exactly img n s f = exactly blankRecord (readOf img (place (get img slots) n)) (objectRows img n) tt s _ f (read-first img n)
+
 pub ask-first : (img : Image) (n : Name)
     → First false (ask (get img partitions) (get img slots) img (place (get img slots) n)) (objectRows img n) (saidAsked (askedOf img n))
 unfolding askedOf
@@ -171,26 +211,6 @@ ask-first img n = go (judgeObject img n) (ask (get img partitions) (get img slot
     go Accepted false f = f false
     go (Refused x) b f = f b
 
--- the lists leave no extra answer a choice, so that `exactly` holds of each (of the others by computation)
-settled-then : (rows more : List Row) → Settled rows → Settled more → Settled (rows ++ more)
-settled-then [] more d m = m
-settled-then (given n e C ∷ rows) more d m = settled-then rows more d m
-settled-then (telling n E ∷ rows) more d m = (d .0, settled-then rows more (d .1) m)
-
-settled-operation : (P S : ℕ) (img : Image) (e : ℕ) (o : Operation) → Settled (operationRows P S img e o)
-settled-operation P S img e (New n v) = tt
-settled-operation P S img e (Set n k t) = tt
-settled-operation P S img e (Val n v) = tt
-settled-operation P S img e (Root r t) = tt
-
-settled-operations : (P S : ℕ) (img : Image) (e : ℕ) (os : List Operation) → Settled (operationsRows P S img e os)
-settled-operations P S img e [] = tt
-settled-operations P S img e (o ∷ os) =
-    settled-then (operationRows P S img e o) (operationsRows P S (perform S img o) (e + 1) os) (settled-operation P S img e o) (settled-operations P S (perform S img o) (e + 1) os)
-
-pub commit-settled : (img : Image) (ops : List Operation) (n : ℕ) (log : List ℕ) (at : ℕ) → Settled (commitRows img ops n log at)
-commit-settled img ops n log at =
-    settled-then (operationsRows (get img partitions) (get img slots) img 1 (take n ops)) _ (settled-operations (get img partitions) (get img slots) img 1 (take n ops)) tt
-
-pub close-settled : (img : Image) (log : List ℕ) (at : ℕ) → Settled (closeRows img log at)
-close-settled img log at = (one-lowest img, tt)
+pub ask-exactly : (img : Image) (n : Name) (s : Said Bool)
+    → First false (ask (get img partitions) (get img slots) img (place (get img slots) n)) (objectRows img n) s → s ≡ saidAsked (askedOf img n)
+ask-exactly img n s f = exactly false (ask (get img partitions) (get img slots) img (place (get img slots) n)) (objectRows img n) tt s _ f (ask-first img n)
