@@ -1,11 +1,10 @@
 -- What the verdict on a call tells: a sound image has P and S in its words 0 and 1 and every reference in range, and so what the code of the acts asks for.
 -- Assumes nothing.
 use Prim.Native.Nat.{ℕ, _+_, _*_, _≤_, _<_}
-use mathlib.Core.Path.{_≡_, refl, sym, ap, _∙_}
-use mathlib.Core.Bool.{Bool, true, false}
+use mathlib.Core.Path.{_≡_}
+use mathlib.Core.Bool.{true, false}
 use mathlib.Core.List.{List}
 use native.Mathlib.Omega.{arith}
-use lib.Dec.{ltb, leb}
 use lib.ListN.{length, take}
 use lib.Seq.{length-take-le}
 use borrow.Author.Tests.{leb-true, lt-leb, le-leb, lt-ltb, eqb-true, ltb-true}
@@ -14,10 +13,10 @@ use Rattle.kinds.specs.Answers.{refuse}
 use Rattle.kinds.specs.declared.Name.{Name}
 use Rattle.kinds.specs.declared.Operation.{Operation}
 use Rattle.kinds.specs.declared.Verdict.{Verdict}
-use Rattle.kinds.specs.declared.Verdict.the-variants.{Accepted, Refused}
+use Rattle.kinds.specs.declared.Verdict.the-variants.{Accepted}
 use Rattle.model.specs.Image.{Image, partitions, slots, count, get, place, front, stride}
 use Rattle.model.specs.Acts.{Act, commit, trace}
-use Rattle.model.specs.Judge.{check, judge, judgeOps, judgeName}
+use Rattle.model.specs.Judge.{check, judge, judgeOps}
 use Rattle.model.specs.Sound.{isSound, Sound, OpenHead}
 use Rattle.model.proofs.Soundness.{sound-true}
 use Rattle.model.proofs.Committing.{check-true}

@@ -1,7 +1,7 @@
 -- What a call leaves: accepted, a sound image, on which no call is refused with 1; refused, the image and the log buffer as they were.
 -- Assumes nothing.
 use Prim.Native.Nat.{ℕ, _+_, _≤_, _<_}
-use mathlib.Core.Path.{_≡_, refl, sym, ap, _∙_, subst}
+use mathlib.Core.Path.{_≡_, refl, ap, _∙_, subst}
 use mathlib.Core.Bool.{Bool, true, false, cond}
 use mathlib.Core.List.{List}
 use mathlib.Core.Logic.{_≢_}
@@ -9,15 +9,13 @@ use native.Mathlib.Omega.{arith}
 use lib.Dec.{leb}
 use borrow.Author.Tests.{leb-true}
 use lib.ListN.{length, take}
-use Rattle.kinds.specs.Names.{mostOperations}
-use Rattle.kinds.specs.Answers.{blankRecord}
 use Rattle.kinds.specs.declared.Name.{Name}
 use Rattle.kinds.specs.declared.Record.{Record}
 use Rattle.kinds.specs.declared.Operation.{Operation}
 use Rattle.kinds.specs.declared.Refusal.{Refusal}
 use Rattle.kinds.specs.declared.Verdict.{Verdict}
 use Rattle.kinds.specs.declared.Verdict.the-variants.{Accepted, Refused}
-use Rattle.model.specs.Image.{Image, lengthOf, blank}
+use Rattle.model.specs.Image.{Image, lengthOf}
 use Rattle.model.specs.Acts.{Act, commit, closing}
 use Rattle.model.specs.Judge.{check, judgeFormat}
 use Rattle.model.specs.Sound.{isSound}
@@ -25,7 +23,7 @@ use Rattle.model.proofs.Soundness.{limits-back}
 use Rattle.model.proofs.SoundnessActs.{act-passes, blank-passes}
 use Rattle.image.proofs.Formats.{format-true}
 use Rattle.writer.specs.Write.{splice}
-use Rattle.catalogue.specs.Call.{noRoom, Outcome, outcome, perform, judgeIn, applyIn, judgeAct, judgeCommit, judgeObject, formatOf, callOf, commitOf, closeOf, reading, readingOf, asked, askedOf}
+use Rattle.catalogue.specs.Call.{noRoom, Outcome, outcome, perform, judgeAct, judgeCommit, judgeObject, formatOf, callOf, commitOf, closeOf, reading, readingOf, asked, askedOf}
 use Rattle.catalogue.specs.Answers.{said, saidClosing, saidReading, saidAsked}
 use Rattle.catalogue.proofs.Judged.{passed, act-sound, act-judged, commit-sound, commit-judged}
 use Rattle.catalogue.proofs.Numbers.{Among, accepted, numbered, check-among, among-wider, act-among, name-among, format-among}
@@ -116,7 +114,7 @@ module _ (img : Image) (log : List ℕ) (at : ℕ) where
       leaves _ _ (λ a. saidClosing a .number) (λ n. refl) (λ r. refl) _ _ img log at _ (unsound-among img _ (act-among _ _ img closing))
       (sound-among img _ (act-among _ _ img closing)) (λ j. act-passes img closing (act-sound img closing j) (act-judged img closing j))
 
--- the questions: refused, a blank record, and no; on a sound image they are never refused with 1
+-- the questions: on a sound image they are never refused with 1
 module _ (img : Image) (n : Name) where
   object-among : isSound img ≡ true → Among 2 16 (judgeObject img n)
   unfolding judgeObject
@@ -130,14 +128,6 @@ module _ (img : Image) (n : Name) where
       go Accepted x accepted e = omega arith
       go (Refused _) x (numbered r l h) e = omega arith
 
-  pub read-blank : saidReading (readingOf img n) .number ≢ 0 → saidReading (readingOf img n) .value ≡ blankRecord
-  unfolding readingOf
-  read-blank = go (judgeObject img n) _
-    where
-      go : (v : Verdict) (x : Record) → saidReading (reading v x) .number ≢ 0 → saidReading (reading v x) .value ≡ blankRecord
-      go Accepted x e = absurd (e refl)
-      go (Refused r) x e = refl
-
   pub ask-not-1 : isSound img ≡ true → saidAsked (askedOf img n) .number ≢ 1
   unfolding askedOf
   ask-not-1 s = go (judgeObject img n) _ (object-among s)
@@ -146,12 +136,3 @@ module _ (img : Image) (n : Name) where
       go Accepted true accepted e = omega arith
       go Accepted false accepted e = omega arith
       go (Refused _) b (numbered r l h) e = omega arith
-
-  pub ask-no : saidAsked (askedOf img n) .number ≢ 0 → saidAsked (askedOf img n) .value ≡ false
-  unfolding askedOf
-  ask-no = go (judgeObject img n) _
-    where
-      go : (v : Verdict) (b : Bool) → saidAsked (asked v b) .number ≢ 0 → saidAsked (asked v b) .value ≡ false
-      go Accepted true e = absurd (e refl)
-      go Accepted false e = absurd (e refl)
-      go (Refused r) b e = refl

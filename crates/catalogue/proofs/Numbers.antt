@@ -1,11 +1,9 @@
 -- Which numbers a refusal can have: 2 of format, 6 to 16 of an act, 7 to 9 of a name; 1 and 17 are the call's. None is 0, so that number 0 is acceptance.
 -- Assumes nothing.
-use Prim.Native.Nat.{ℕ, _+_, _≤_, _<_}
-use mathlib.Core.Path.{_≡_, refl}
+use Prim.Native.Nat.{ℕ, _+_, _≤_}
 use mathlib.Core.Bool.{Bool, true, false}
 use mathlib.Core.List.{List, [], _∷_}
 use native.Mathlib.Omega.{arith}
-use lib.ListN.{take}
 use Rattle.kinds.specs.declared.Name.{Name}
 use Rattle.kinds.specs.declared.Operation.{Operation}
 use Rattle.kinds.specs.declared.Operation.the-variants.{New, Set, Val, Root}
@@ -15,8 +13,6 @@ use Rattle.kinds.specs.declared.Verdict.the-variants.{Accepted, Refused}
 use Rattle.model.specs.Image.{Image}
 use Rattle.model.specs.Acts.{Act, commit, opening, closing, trace, perform}
 use Rattle.model.specs.Judge.{check, andThen, judge, judgeOp, judgeOps, judgeFormat, judgeName}
-use Rattle.model.specs.Sound.{isSound}
-use Rattle.catalogue.specs.Call.{judgeAct, judgeCommit, judgeObject}
 
 -- accepted, or refused with a number from lo to hi
 pub data Among (lo hi : ℕ) : Verdict → Type 0 where

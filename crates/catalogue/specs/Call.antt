@@ -1,11 +1,11 @@
 -- What each public call answers and leaves: one definition of its inputs, accepted or refused.
 use Prim.Native.Nat.{ℕ, _+_, _*_}
-use mathlib.Core.Bool.{Bool, true, false, cond}
+use mathlib.Core.Bool.{Bool, cond}
 use mathlib.Core.List.{List}
 use lib.Dec.{leb}
 use lib.ListN.{length, take}
 use Rattle.kinds.specs.Names.{mostOperations}
-use Rattle.kinds.specs.Answers.{refuse, blankRecord}
+use Rattle.kinds.specs.Answers.{blankRecord}
 use Rattle.kinds.specs.declared.Name.{Name}
 use Rattle.kinds.specs.declared.Partition.{Partition}
 use Rattle.kinds.specs.declared.Operation.{Operation}

@@ -1,6 +1,6 @@
 -- Every sound image is within its bounds, and every move keeps it there.
 -- Assumes nothing.
-use Prim.Native.Nat.{ℕ, _+_, _*_, _-_, _/_, _%_, _≤_, _<_}
+use Prim.Native.Nat.{ℕ, _*_, _-_, _/_, _%_, _≤_, _<_}
 use mathlib.Core.Path.{_≡_, refl, sym, ap, _∙_, subst}
 use mathlib.Core.Bool.{Bool, true, false, cond}
 use mathlib.Core.Logic.{_≢_}
@@ -12,7 +12,7 @@ use lib.ListN.{length}
 use borrow.Author.Tests.{eqb-true, eqb-false}
 use Rattle.loops.proofs.Tests.{both-true, clash}
 use Rattle.kinds.specs.Names.{mostPartitions, mostSlots, radix}
-use Rattle.model.specs.Image.{Image, Key, head, root, flag, state, payload, field, addr, get, put, placeOf, partOf, refer, release, Holder, a-root, a-field, lengthOf, size}
+use Rattle.model.specs.Image.{Image, Key, head, root, flag, state, payload, field, addr, get, put, placeOf, partOf, refer, release, Holder, a-root, a-field}
 use Rattle.model.specs.Acts.{mark, markWord}
 use Rattle.model.specs.Sound.{SoundAt, NamesUsed}
 use Rattle.model.proofs.Keys.{Fits, In, Sized, same, touches, get-put-apart, sized-put, sized-length, refer-apart, refer-same, sized-refer, release-apart, release-same, sized-release}

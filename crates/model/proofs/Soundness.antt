@@ -88,9 +88,6 @@ module _ (x : Image) where
       rw
       (eq-eqb (get x (payload j)) 0 (h .value), every-so 4 (λ k. eqb (get x (field j k)) 0) (λ k l. eq-eqb (get x (field j k)) 0 (h .fields k l)))
 
-  pub free-not : (j : ℕ) → (Free x j → ⊥) → freeOk x j ≡ false
-  free-not j h = is-false (freeOk x j) (λ e. h (free-true j e))
-
   -- flags that are 0, and places without a mark
   pub down-true : (p : ℕ) → flagDown x p ≡ true → get x (flag p) ≡ 0
   unfolding flagDown
@@ -100,10 +97,6 @@ module _ (x : Image) where
   unfolding flagDown
   down-back p z = eq-eqb (get x (flag p)) 0 z
 
-  pub down-not : (p : ℕ) → get x (flag p) ≢ 0 → flagDown x p ≡ false
-  unfolding flagDown
-  down-not p n = ne-eqb (get x (flag p)) 0 n
-
   pub unmarked-true : (j : ℕ) → unmarkedAt x j ≡ true → get x (state j) ≢ 2
   unfolding unmarkedAt
   unmarked-true j e z = clash {b = not (marked x j)} e (rw (eq-eqb (get x (state j)) 2 z))
@@ -111,10 +104,6 @@ module _ (x : Image) where
   pub unmarked-back : (j : ℕ) → get x (state j) ≢ 2 → unmarkedAt x j ≡ true
   unfolding unmarkedAt
   unmarked-back j n = rw (ne-eqb (get x (state j)) 2 n)
-
-  pub unmarked-not : (j : ℕ) → get x (state j) ≡ 2 → unmarkedAt x j ≡ false
-  unfolding unmarkedAt
-  unmarked-not j z = rw (eq-eqb (get x (state j)) 2 z)
 
 -- a flag is 0 or 1, and 0 from partition P on
 pub record FlagOk (P : ℕ) (x : Image) (p : ℕ) : Type 0 where
@@ -140,9 +129,6 @@ module _ (P : ℕ) (x : Image) (p : ℕ) where
       both-so (leb (get x (flag p)) 1) (cond (ltb p P) true (eqb (get x (flag p)) 0))
       (le-leb (get x (flag p)) 1 (h .low))
       (cond-so (ltb p P) (eqb (get x (flag p)) 0) (λ q. eq-eqb (get x (flag p)) 0 (h .beyond (ltb-false p P q))))
-
-  pub flag-not : (FlagOk P x p → ⊥) → flagOk P x p ≡ false
-  flag-not h = is-false (flagOk P x p) (λ e. h (flag-true e))
 
 -- the state of a place is known, its references name slots in use, and free it is six zeros
 pub record SlotOk (P S : ℕ) (x : Image) (j : ℕ) : Type 0 where
@@ -184,10 +170,6 @@ module _ (P S : ℕ) (x : Image) where
   unfolding rootOk
   root-back r h = ref-back (root r) h
 
-  pub root-not : (r : ℕ) → get x (root r) ≢ 0 → (NamesUsed P S x (root r) → ⊥) → rootOk P S x r ≡ false
-  unfolding rootOk
-  root-not r n h = ref-not (root r) n h
-
   -- a slot
   pub slot-true : (j : ℕ) → slotOk P S x j ≡ true → SlotOk P S x j
   unfolding slotOk
@@ -211,9 +193,6 @@ module _ (P S : ℕ) (x : Image) where
     where
       unused : used x j ≡ false → get x (state j) ≡ 0
       unused e = ⊎-elim (λ z. z) (λ n. absurd (clash {b = used x j} (used-back x j n) e)) (eq-or-ne (get x (state j)) 0)
-
-  pub slot-not : (j : ℕ) → (SlotOk P S x j → ⊥) → slotOk P S x j ≡ false
-  slot-not j h = is-false (slotOk P S x j) (λ e. h (slot-true j e))
 
   -- the head of an open phase, and of a shut one
   pub open-true : openOk P S x ≡ true → OpenHead P S x
@@ -253,9 +232,6 @@ module _ (P S : ℕ) (x : Image) where
         every-so mostPartitions (flagDown x) (λ p l. down-back x p (h .flags p l)),
         every-so (P * S) (unmarkedAt x) (λ j l. unmarked-back x j (h .unmarked j l)),
       )
-
-  pub shut-not : (ShutHead P S x → ⊥) → shutOk P S x ≡ false
-  shut-not h = is-false (shutOk P S x) (λ e. h (shut-true e))
 
   -- the words of the head that the phase decides
   phaseOk : Bool

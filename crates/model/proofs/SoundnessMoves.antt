@@ -310,9 +310,6 @@ module _ (P S : ℕ) where
       (λ q. holds-more down (holds-state y j 2 l two (omega arith) (λ z. absurd (omega arith)) (down .sound)))
       (λ n. holds-self x s)
 
-  pub mark-sound : (x : Image) (j : ℕ) → j < P * S → get x phase ≡ 1 → SoundAt P S x → SoundAt P S (mark S x j)
-  mark-sound x j l o s = holds-mark x j l o s .sound
-
   -- the place of a word that names a slot
   pub word-place : (w : ℕ) → 0 < S → (w - 1) / radix < P → (w - 1) % radix < S → placeOf S w < P * S
   unfolding placeOf

@@ -1,6 +1,6 @@
 -- The acts, as functions of the image. P partitions of S slots, read once from the image and handed down.
 use Prim.Native.Nat.{ℕ, _+_, _*_}
-use mathlib.Core.Bool.{Bool, true, not, cond}
+use mathlib.Core.Bool.{Bool, not, cond}
 use mathlib.Core.List.{List, [], _∷_}
 use lib.Dec.{eqb}
 use Rattle.loops.specs.Loop.{each, both, tally}

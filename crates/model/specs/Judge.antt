@@ -14,7 +14,7 @@ use Rattle.kinds.specs.declared.Operation.{Operation}
 use Rattle.kinds.specs.declared.Operation.the-variants.{New, Set, Val, Root}
 use Rattle.kinds.specs.declared.Verdict.{Verdict}
 use Rattle.kinds.specs.declared.Verdict.the-variants.{Accepted, Refused}
-use Rattle.model.specs.Image.{Image, Key, root, flag, state, field, count, allowance, anchors, get, size, place, placeOf}
+use Rattle.model.specs.Image.{Image, Key, root, flag, field, count, allowance, anchors, get, size, place, placeOf}
 use Rattle.model.specs.Acts.{Act, commit, opening, closing, trace, used, marked, isOpen, perform, notClean}
 
 -- the next check, if this one passes

@@ -4,8 +4,8 @@
 use Prim.Native.Nat.{ℕ, _+_, _*_, _≤_}
 use mathlib.Core.Path.{_≡_, refl, sym, subst}
 use mathlib.Core.Bool.{Bool, true, false, true≢false}
-use mathlib.Core.List.{List, [], _∷_, _++_}
-use mathlib.Core.Logic.{_⊎_, inl, inr, ⊎-elim}
+use mathlib.Core.List.{List, [], _∷_}
+use mathlib.Core.Logic.{inl, inr, ⊎-elim}
 use native.Mathlib.Omega.{arith}
 use lib.Dec.{ltb, leb}
 use lib.ListN.{length, take}
@@ -31,7 +31,7 @@ use Rattle.catalogue.specs.declared.Answer.the-variants.{Done, Refused as NotDo
 use Rattle.catalogue.specs.declared.Closing.the-variants.{Refused as NotClosed}
 use Rattle.catalogue.specs.Answers.{Said, said, Totals, totals, saidClosing, saidReading, saidAsked}
 use Rattle.catalogue.specs.Call.{judgeAct, judgeCommit, judgeObject, formatOf, callOf, commitOf, openOf, traceOf, closed, closeOf, reading, readingOf, asked, askedOf}
-use Rattle.promises.specs.Rows.{Row, given, telling, First, Unsound, WrongCount, NoRoom, Lowest, formatRows, operationRows, operationsRows, commitRows, openRows, traceRows, closeRows, objectRows}
+use Rattle.promises.specs.Rows.{given, telling, First, Unsound, WrongCount, NoRoom, Lowest, formatRows, operationRows, operationsRows, commitRows, openRows, traceRows, closeRows, objectRows}
 use Rattle.promises.proofs.Conditions.{test-lt, test-le, test-ne, test-both, test-as, test-sound, test-size, test-name, test-target, test-free, test-used, test-target-used, test-open, test-shut, test-rooted, test-unclean, found-lowest, none-lowest, one-lowest, test-led}
 use Rattle.promises.proofs.Listing.{Tests, Settled, settled-then, Found, found-none, found-check, found-tell, found-then, telled, first-found, exactly, said-perform}
 

@@ -6,7 +6,6 @@ use lib.Dec.{eqb}
 use lib.ListN.{getD}
 use Rattle.lines.specs.declared.line.Line.{Line}
 use Rattle.lines.specs.declared.line.Line.the-variants.{Heading, Operation as OperationLine, End, Open, Trace, Close, Bad as BadLine}
-use Rattle.lines.specs.declared.machine.Read.{Read}
 use Rattle.lines.specs.declared.machine.Scan.the-variants.{Number as InNumber}
 use Rattle.lines.specs.Line.{finish}
 use Rattle.scripts.specs.declared.run.Span.{Span}

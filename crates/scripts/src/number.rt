@@ -5,8 +5,6 @@ use lines::machine::Read;
 use lines::machine::Scan;
 use lines::words::END;
 ghost use mathlib.Core.Path.{_≡_};
-ghost use Rattle.lines.specs.Line.{lineOf};
-ghost use Rattle.lines.specs.Machine.{scan};
 ghost use Rattle.scripts.specs.Numbers.{numberOf, keywordOf, afterEnd};
 
 // What a word is.

@@ -3,7 +3,6 @@
 // One loop (`all`) makes every test that is made at an index, over an enum of checks; the fields of all slots are one row, so each word
 // is read a bounded number of times. P and S are compared before anything is multiplied, and a place is known before its state is read.
 ghost use mathlib.Core.Path.{_≡_};
-ghost use mathlib.Core.Bool.{Bool};
 ghost use Prim.Native.Nat.{_*_, _<_, _≤_};
 ghost use lib.ListN.{length};
 ghost use Rattle.loops.specs.Loop.{every};
