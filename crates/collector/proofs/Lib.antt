@@ -1,3 +1,4 @@
 pub mod Walks
 pub mod Searches
 pub mod Sweeps
+pub mod Checks

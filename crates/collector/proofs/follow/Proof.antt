@@ -1,16 +1,16 @@
 -- `collector::follow` meets its contract. Assumes nothing.
 use mathlib.Core.Bool.{true, false, true≢false}
+use Rattle.loops.specs.Loop.{both}
 use Rattle.collector.proofs.Sweeps.{slot-in}
 use Rattle.collector.specs.Sweeps.{wanted, followAt}
-use Rattle.model.specs.Acts.{mark}
+use Rattle.model.specs.Acts.{marked, mark, refers}
 use Rattle.model.specs.Spread.{follow}
-use Rattle.model.specs.Image.{get, addr, field, placeOf, a-field}
+use Rattle.model.specs.Image.{get, addr, state, field, a-field}
 use Rattle.image.proofs.Within.{product, mark-ready}
-use lib.ListN.{getD}
 use native.Mathlib.Omega.{arith}
 use mathlib.Core.Path.{_≡_, refl, sym, ap, _∙_}
-use Prim.Native.Nat.{ℕ, _<_, _-_, _+_, _*_, _/_, _%_}
-use borrow.Author.Tests.{eq-eqb, ne-eqb, not-true, not-false}
+use Prim.Native.Nat.{ℕ, _<_, _+_, _*_, _/_, _%_}
+use borrow.Author.Tests.{ne-eqb, not-true, not-false}
 use borrow.Author.Needs.{needs}
 use Rattle.collector.proofs.follow.Statement.{statement}
 use Rattle.collector.proofs.follow.Tie as tie
@@ -26,15 +26,22 @@ target-in c =
     let l = c .before .before .before .before .before .before .before .pre .0 .refs (field (a .t .0 * a .s + a .i / 4) (a .i % 4)) (a-field (place-in (c .before .before .before .before .before)) (omega arith)) (c .before .if2 .left) in
     omega arith
 
--- the field's word
-word : tie.After-place-of → ℕ
-word c = let a = c .before .before .before .before .before .before .before .args in getD (a .img .now) (37 + 6 * (a .t .0 * a .s + a .i / 4) + 2 + a .i % 4) 0
+-- the state of the object whose field it is
+state-of : tie.After-struct-known → ℕ
+state-of c = let a = c .before .before .args in get (a .img .now) (state (a .t .0 * a .s + a .i / 4))
 
-wants : (c : tie.After-is-wanted) → wanted (c .before .before .before .before .before .before .before .before .args .s) (c .before .before .before .before .before .before .before .before .args .t .0) (c .before .before .before .before .before .before .before .before .args .within) (placeOf (c .before .before .before .before .before .before .before .before .args .s) (word (c .before))) ≡ c .is-wanted .result
-unfolding word
+-- past the check of the state it is marked
+held : (c : tie.Else1) → state-of (c .before .before) ≡ 2
+unfolding get addr state-of
+held c = search needs
+
+-- past the checks of the state and of the word: whether the field's target is to be marked
+wants : (c : tie.After-is-wanted) → let a = c .before .before .before .before .before .before .before .before .args in both (marked (a .img .now) (a .t .0 * a .s + a .i / 4)) (refers (a .s) (wanted (a .s) (a .t .0) (a .within)) (a .img .now) (a .t .0 * a .s + a .i / 4) (a .i % 4)) ≡ c .is-wanted .result
+unfolding get addr state-of
 wants c =
     let a = c .before .before .before .before .before .before .before .before .args in
-    ap (wanted (a .s) (a .t .0) (a .within)) (sym (c .before .place-of .ensures)) ∙ sym (c .is-wanted .ensures)
+    rw (held (c .before .before .before .before), ne-eqb _ _ (c .before .before .if2 .left))
+    (ap (wanted (a .s) (a .t .0) (a .within)) (sym (c .before .place-of .ensures)) ∙ sym (c .is-wanted .ensures))
 
 cast-q : tie.Need-cast-q
 cast-q c = search needs
@@ -58,8 +65,8 @@ slice-read-if1 : tie.Need-slice-read-if1
 slice-read-if1 c = omega (arith, place-in (c .before))
 
 returns : tie.Need-returns
-unfolding followAt follow get addr
-returns c = (rw (ne-eqb _ _ (c .if1 .taken)), λ _. refl)
+unfolding followAt follow get addr state-of
+returns c = (rw (ne-eqb (state-of (c .before .before)) 2 (search needs)), λ _. refl)
 
 mul-w : tie.Need-mul-w
 mul-w c = omega (arith, place-in (c .before .before))
@@ -80,8 +87,8 @@ slice-read-w : tie.Need-slice-read-w
 slice-read-w c = omega (arith, place-in (c .before .before .before))
 
 returns-2 : tie.Need-returns-2
-unfolding followAt follow get addr
-returns-2 c = (rw (eq-eqb _ _ (c .before .before .if1 .left), eq-eqb _ _ (c .if2 .taken)), λ _. refl)
+unfolding followAt follow get addr state-of
+returns-2 c = (rw (held (c .before .before), c .if2 .taken), λ _. refl)
 
 place-of-requires : tie.Need-place-of-requires
 place-of-requires c κs = search needs
@@ -90,16 +97,8 @@ is-wanted-requires : tie.Need-is-wanted-requires
 is-wanted-requires c κs = search needs
 
 returns-3 : tie.Need-returns-3
-unfolding followAt follow get addr word
-returns-3 c = (
-  rw (
-    eq-eqb _ _ (c .before .before .before .before .before .if1 .left),
-    ne-eqb _ _ (c .before .before .before .if2 .left),
-    wants (c .before),
-    not-true (c .before .is-wanted .result) (c .if3 .taken),
-  ),
-  λ _. refl,
-)
+unfolding followAt follow get addr
+returns-3 c = (rw (wants (c .before), not-true (c .before .is-wanted .result) (c .if3 .taken)), λ _. refl)
 
 mul-if4 : tie.Need-mul-if4
 mul-if4 c = omega (arith, target-in (c .before .before))
@@ -114,11 +113,9 @@ slice-read-if4 : tie.Need-slice-read-if4
 slice-read-if4 c = omega (arith, target-in (c .before .before .before))
 
 returns-4 : tie.Need-returns-4
-unfolding followAt follow mark get addr word
+unfolding followAt follow mark get addr
 returns-4 c = (
   rw (
-    eq-eqb _ _ (c .before .before .before .before .before .before .before .if1 .left),
-    ne-eqb _ _ (c .before .before .before .before .before .if2 .left),
     wants (c .before .before .before),
     not-false (c .before .before .before .is-wanted .result) (c .before .before .if3 .left),
     ← (c .before .before .before .before .place-of .ensures),
@@ -134,11 +131,9 @@ same-length : tie.Need-same-length
 same-length c = search needs
 
 returns-5 : tie.Need-returns-5
-unfolding followAt follow get addr word
+unfolding followAt follow get addr
 returns-5 c = (
   rw (
-    eq-eqb _ _ (c .before .before .before .before .before .before .before .before .before .before .before .if1 .left),
-    ne-eqb _ _ (c .before .before .before .before .before .before .before .before .before .if2 .left),
     wants (c .before .before .before .before .before .before .before),
     not-false (c .before .before .before .before .before .before .before .is-wanted .result) (c .before .before .before .before .before .before .if3 .left),
     ← (c .before .before .before .before .before .before .before .before .place-of .ensures),

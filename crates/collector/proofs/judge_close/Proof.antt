@@ -3,9 +3,11 @@ use mathlib.Core.Bool.{true}
 use lib.Dec.{eqb}
 use Rattle.model.specs.Acts.{notClean}
 use Rattle.collector.proofs.Searches.{lowest-is, unclean-some, unclean-none}
-use Rattle.model.specs.Judge.{judge, check, rooted}
+use Rattle.collector.proofs.Checks.{passes, stops}
+use Rattle.model.specs.Judge.{judge, rooted}
 use Rattle.model.specs.Image.{get, addr}
-use mathlib.Core.Path.{_≡_, sym, _∙_}
+use native.Mathlib.Omega.{arith}
+use mathlib.Core.Path.{_≡_, refl, sym, _∙_}
 use borrow.Author.Tests.{eq-eqb, ne-eqb, not-true, not-false}
 use borrow.Author.Needs.{needs}
 use Rattle.collector.proofs.judge_close.Statement.{statement}
@@ -18,8 +20,8 @@ refuse-requires : tie.Need-refuse-requires
 refuse-requires c κs = search needs
 
 returns : tie.Need-returns
-unfolding judge check get addr
-returns c = rw (ne-eqb _ _ (c .before .if1 .taken)) (c .refuse .ensures)
+unfolding judge get addr
+returns c = stops _ (omega (arith, ne-eqb)) (c .refuse .ensures)
 
 rooted-requires : tie.Need-rooted-requires
 rooted-requires c κs = search needs
@@ -28,9 +30,8 @@ refuse-requires-2 : tie.Need-refuse-requires-2
 refuse-requires-2 c κs = search needs
 
 returns-2 : tie.Need-returns-2
-unfolding judge check get addr
-returns-2 c =
-    rw (eq-eqb _ _ (c .before .before .before .if1 .left), sym (c .before .before .rooted .ensures) ∙ not-true (c .before .before .rooted .result) (c .before .if2 .taken)) (c .refuse2 .ensures)
+unfolding judge get addr
+returns-2 c = passes _ _ (omega (arith, eq-eqb)) (stops _ (sym (c .before .before .rooted .ensures) ∙ not-true (c .before .before .rooted .result) (c .before .if2 .taken)) (c .refuse2 .ensures))
 
 first-requires : tie.Need-first-requires
 first-requires c κs = search needs
@@ -42,19 +43,15 @@ refuse-requires-3 c κs = search needs
 roots-are : (c : tie.Else2) → rooted (c .before .before .before .before .before .args .img .now) ≡ true
 roots-are c = sym (c .before .rooted .ensures) ∙ not-false (c .before .rooted .result) (c .if2 .left)
 
-cleaned : (c : tie.Else3) → eqb (notClean (c .before .before .before .before .before .before .before .args .p) (c .before .before .before .before .before .before .before .args .img .now)) 0 ≡ true
-cleaned c = unclean-none (c .before .before .before .before .before .before .before .args .s) _ _ (rw (c .before .first .ensures) at (c .if3 .left))
+cleaned : (c : tie.Else3) → let a = c .before .before .before .before .before .before .before .args in eqb (notClean (a .p) (a .img .now)) 0 ≡ true
+cleaned c = unclean-none (c .before .before .before .before .before .before .before .args .s) _ _ (search needs)
 
 returns-3 : tie.Need-returns-3
-unfolding judge check get addr
+unfolding judge get addr
 returns-3 c =
-    rw (
-      eq-eqb _ _ (c .before .before .before .before .before .if1 .left),
-      roots-are (c .before .before .before),
-      unclean-some (c .before .before .before .before .before .before .before .before .args .s) _ _ (rw (c .before .before .first .ensures) at (c .before .if3 .taken)),
-      ← (lowest-is (c .before .before .before .before .before .before .before .before .args .s) (c .before .before .before .before .before .before .before .before .args .img .now) (c .before .before .before .before .before .before .before .before .args .p)),
-      ← (c .before .before .first .ensures),
-    ) (c .refuse3 .ensures)
+    let a = c .before .before .before .before .before .before .before .before .args in
+    passes _ _ (omega (arith, eq-eqb)) (passes _ _ (roots-are (c .before .before .before)) (stops _ (unclean-some (a .s) (a .img .now) (a .p) (search needs))
+    (rw (← (lowest-is (a .s) (a .img .now) (a .p)), ← (c .before .before .first .ensures)) (c .refuse3 .ensures))))
 
 led-requires : tie.Need-led-requires
 led-requires c κs = search needs
@@ -63,24 +60,12 @@ refuse-requires-4 : tie.Need-refuse-requires-4
 refuse-requires-4 c κs = search needs
 
 returns-4 : tie.Need-returns-4
-unfolding judge check get addr
-returns-4 c =
-    rw (
-      eq-eqb _ _ (c .before .before .before .before .before .before .before .if1 .left),
-      roots-are (c .before .before .before .before .before),
-      cleaned (c .before .before .before),
-      sym (c .before .before .led .ensures) ∙ not-true (c .before .before .led .result) (c .before .if4 .taken),
-    ) (c .refuse4 .ensures)
+unfolding judge get addr
+returns-4 c = passes _ _ (omega (arith, eq-eqb)) (passes _ _ (roots-are (c .before .before .before .before .before)) (passes _ _ (cleaned (c .before .before .before)) (stops _ (sym (c .before .before .led .ensures) ∙ not-true (c .before .before .led .result) (c .before .if4 .taken)) (c .refuse4 .ensures))))
 
 returns-5 : tie.Need-returns-5
-unfolding judge check get addr
-returns-5 c =
-    rw (
-      eq-eqb _ _ (c .before .before .before .before .before .before .if1 .left),
-      roots-are (c .before .before .before .before),
-      cleaned (c .before .before),
-      sym (c .before .led .ensures) ∙ not-false (c .before .led .result) (c .if4 .left),
-    )
+unfolding judge get addr
+returns-5 c = passes _ _ (omega (arith, eq-eqb)) (passes _ _ (roots-are (c .before .before .before .before)) (passes _ _ (cleaned (c .before .before)) (passes _ _ (sym (c .before .led .ensures) ∙ not-false (c .before .led .result) (c .if4 .left)) refl)))
 
 pub judge-close-spec : {M : Type 1} → statement M
 judge-close-spec =

@@ -1,8 +1,10 @@
 -- `collector::judge_open` meets its contract. Assumes nothing.
-use Rattle.model.specs.Judge.{judge, check}
+use Rattle.collector.proofs.Checks.{passes, stops, eq-not, ne-not}
+use Rattle.model.specs.Judge.{judge}
 use Rattle.model.specs.Image.{get, addr}
-use mathlib.Core.Path.{sym, _∙_}
-use borrow.Author.Tests.{eq-eqb, ne-eqb, not-true, not-false}
+use native.Mathlib.Omega.{arith}
+use mathlib.Core.Path.{refl, sym, _∙_}
+use borrow.Author.Tests.{not-true, not-false}
 use borrow.Author.Needs.{needs}
 use Rattle.collector.proofs.judge_open.Statement.{statement}
 use Rattle.collector.proofs.judge_open.Tie as tie
@@ -14,8 +16,8 @@ refuse-requires : tie.Need-refuse-requires
 refuse-requires c κs = search needs
 
 returns : tie.Need-returns
-unfolding judge check get addr
-returns c = rw (eq-eqb _ _ (c .before .if1 .taken)) (c .refuse .ensures)
+unfolding judge get addr
+returns c = stops _ (omega (arith, eq-not)) (c .refuse .ensures)
 
 rooted-requires : tie.Need-rooted-requires
 rooted-requires c κs = search needs
@@ -24,14 +26,12 @@ refuse-requires-2 : tie.Need-refuse-requires-2
 refuse-requires-2 c κs = search needs
 
 returns-2 : tie.Need-returns-2
-unfolding judge check get addr
-returns-2 c =
-    rw (ne-eqb _ _ (c .before .before .before .if1 .left), sym (c .before .before .rooted .ensures) ∙ not-true (c .before .before .rooted .result) (c .before .if2 .taken)) (c .refuse2 .ensures)
+unfolding judge get addr
+returns-2 c = passes _ _ (omega (arith, ne-not)) (stops _ (sym (c .before .before .rooted .ensures) ∙ not-true (c .before .before .rooted .result) (c .before .if2 .taken)) (c .refuse2 .ensures))
 
 returns-3 : tie.Need-returns-3
-unfolding judge check get addr
-returns-3 c =
-    rw (ne-eqb _ _ (c .before .before .if1 .left), sym (c .before .rooted .ensures) ∙ not-false (c .before .rooted .result) (c .if2 .left))
+unfolding judge get addr
+returns-3 c = passes _ _ (omega (arith, ne-not)) (passes _ _ (sym (c .before .rooted .ensures) ∙ not-false (c .before .rooted .result) (c .if2 .left)) refl)
 
 pub judge-open-spec : {M : Type 1} → statement M
 judge-open-spec =

@@ -1,6 +1,9 @@
 -- `collector::judge_trace` meets its contract. Assumes nothing.
-use Rattle.model.specs.Judge.{judge, check}
+use Rattle.collector.proofs.Checks.{passes, stops, eq-not, ne-not}
+use Rattle.model.specs.Judge.{judge}
 use Rattle.model.specs.Image.{get, addr}
+use native.Mathlib.Omega.{arith}
+use mathlib.Core.Path.{refl}
 use borrow.Author.Tests.{eq-eqb, ne-eqb, lt-ltb, le-ltb}
 use borrow.Author.Needs.{needs}
 use Rattle.collector.proofs.judge_trace.Statement.{statement}
@@ -13,8 +16,8 @@ refuse-requires : tie.Need-refuse-requires
 refuse-requires c κs = search needs
 
 returns : tie.Need-returns
-unfolding judge check get addr
-returns c = rw (ne-eqb _ _ (c .before .if1 .taken)) (c .refuse .ensures)
+unfolding judge get addr
+returns c = stops _ (omega (arith, ne-eqb)) (c .refuse .ensures)
 
 cast-q : tie.Need-cast-q
 cast-q c = search needs
@@ -23,8 +26,8 @@ refuse-requires-2 : tie.Need-refuse-requires-2
 refuse-requires-2 c κs = search needs
 
 returns-2 : tie.Need-returns-2
-unfolding judge check get addr
-returns-2 c = rw (eq-eqb _ _ (c .before .before .before .if1 .left), le-ltb _ _ (c .before .if2 .taken)) (c .refuse2 .ensures)
+unfolding judge get addr
+returns-2 c = passes _ _ (omega (arith, eq-eqb)) (stops _ (omega (arith, le-ltb)) (c .refuse2 .ensures))
 
 add-if3 : tie.Need-add-if3
 add-if3 c = search needs
@@ -39,9 +42,8 @@ refuse-requires-3 : tie.Need-refuse-requires-3
 refuse-requires-3 c κs = search needs
 
 returns-3 : tie.Need-returns-3
-unfolding judge check get addr
-returns-3 c =
-    rw (eq-eqb _ _ (c .before .before .before .before .before .if1 .left), lt-ltb _ _ (c .before .before .before .if2 .left), ne-eqb _ _ (c .before .if3 .taken)) (c .refuse3 .ensures)
+unfolding judge get addr
+returns-3 c = passes _ _ (omega (arith, eq-eqb)) (passes _ _ (omega (arith, lt-ltb)) (stops _ (omega (arith, ne-eqb)) (c .refuse3 .ensures)))
 
 shared-slice-read-if4 : tie.Need-shared-slice-read-if4
 shared-slice-read-if4 c = search needs
@@ -53,24 +55,12 @@ refuse-requires-4 : tie.Need-refuse-requires-4
 refuse-requires-4 c κs = search needs
 
 returns-4 : tie.Need-returns-4
-unfolding judge check get addr
-returns-4 c =
-    rw (
-      eq-eqb _ _ (c .before .before .before .before .before .before .before .before .if1 .left),
-      lt-ltb _ _ (c .before .before .before .before .before .before .if2 .left),
-      eq-eqb _ _ (c .before .before .before .before .if3 .left),
-      eq-eqb _ _ (c .before .if4 .taken),
-    ) (c .refuse4 .ensures)
+unfolding judge get addr
+returns-4 c = passes _ _ (omega (arith, eq-eqb)) (passes _ _ (omega (arith, lt-ltb)) (passes _ _ (omega (arith, eq-eqb)) (stops _ (omega (arith, eq-not)) (c .refuse4 .ensures))))
 
 returns-5 : tie.Need-returns-5
-unfolding judge check get addr
-returns-5 c =
-    rw (
-      eq-eqb _ _ (c .before .before .before .before .before .before .before .if1 .left),
-      lt-ltb _ _ (c .before .before .before .before .before .if2 .left),
-      eq-eqb _ _ (c .before .before .before .if3 .left),
-      ne-eqb _ _ (c .if4 .left),
-    )
+unfolding judge get addr
+returns-5 c = passes _ _ (omega (arith, eq-eqb)) (passes _ _ (omega (arith, lt-ltb)) (passes _ _ (omega (arith, eq-eqb)) (passes _ _ (omega (arith, ne-not)) refl)))
 
 pub judge-trace-spec : {M : Type 1} → statement M
 judge-trace-spec =

@@ -9,7 +9,7 @@ first-requires : tie.Need-first-requires
 first-requires c κs = search needs
 
 returns : tie.Need-returns
-returns c = sym (led-root _ _ _ (rw (c .before .first .ensures) at (c .if1 .taken)))
+returns c = sym (led-root _ _ _ (search needs))
 
 mul-n : tie.Need-mul-n
 mul-n c = search needs
@@ -21,10 +21,10 @@ first-requires-2 : tie.Need-first-requires-2
 first-requires-2 c κs = search needs
 
 returns-2 : tie.Need-returns-2
-returns-2 c = sym (led-field _ _ _ (rw (c .before .first2 .ensures) at (c .if2 .taken)))
+returns-2 c = sym (led-field _ _ _ (search needs))
 
 returns-3 : tie.Need-returns-3
-returns-3 c = sym (led-so _ _ _ (rw (c .before .before .before .first .ensures) at (c .before .before .if1 .left)) (rw (c .before .first2 .ensures) at (c .if2 .left)))
+returns-3 c = sym (led-so _ _ _ (search needs) (search needs))
 
 pub led-spec : {M : Type 1} → statement M
 led-spec =

@@ -12,10 +12,10 @@ first-requires : tie.Need-first-requires
 first-requires c κs = search needs
 
 returns : tie.Need-returns
-returns c = sym (rooted-so _ _ (rw (c .before .first .ensures) at (c .if1 .taken)))
+returns c = sym (rooted-so (c .before .before .before .args .s) _ (search needs))
 
 returns-2 : tie.Need-returns-2
-returns-2 c = sym (rooted-not _ _ (rw (c .before .first .ensures) at (c .if1 .left)))
+returns-2 c = sym (rooted-not (c .before .before .before .args .s) _ (search needs))
 
 pub rooted-spec : {M : Type 1} → statement M
 rooted-spec = tie.close (tie.spec cast-n first-requires returns returns-2)
