@@ -2,3 +2,4 @@ pub mod Runs
 pub mod Numbers
 pub mod Table
 pub mod Commands
+pub mod Orders

@@ -1,12 +1,12 @@
 // The shell: reads a script from standard input, makes the catalogue's calls that it names, and writes each answer (docs/SHELL.md has every
-// command). It lends an image, a log buffer and a waiting transaction; nothing but the calls and the commands image, word, buffer and bytes
-// changes them. What a line means is the proved library scripts; here every function is proved to be safe and to end.
+// command). What a line asks for is the proved library scripts; what it leaves of the image, the log buffer and the waiting transaction that
+// are lent, and what it is answered, is the proved library desk (`stepOf`), and the one call of `desk::step` alone is lent them to change.
+// Here every function is proved to be safe and to end.
 mod answer;
-mod call;
 mod digest;
-mod lend;
 mod out;
 mod run;
+mod say;
 mod show;
 
 use crate::run::run;

@@ -1,14 +1,11 @@
 -- `scripts::number::keyword` meets its contract. Assumes nothing.
-use Rattle.scripts.specs.Numbers.{isLetter}
-use lib.ListN.{getD}
+use Rattle.scripts.specs.Numbers.{isLetter, coded, keywordOf}
+use lib.ListN.{getD, length, drop}
 use Rattle.loops.proofs.Tests.{both-false}
 use borrow.Author.Tests.{lt-ltb, le-ltb, le-leb, lt-leb}
-use Prim.Native.Nat.{_^_}
+use Prim.Native.Nat.{_^_, _-_}
 use native.Mathlib.Omega.{arith}
-use Prim.Native.Nat.{_-_}
 use mathlib.Core.Path.{_≡_, sym, _∙_}
-use lib.ListN.{length, drop}
-use Rattle.scripts.specs.Numbers.{coded, keywordOf}
 use Rattle.scripts.proofs.Keywords.{coded-stop, coded-on, coded-end}
 use borrow.Author.Needs.{needs}
 use Rattle.scripts.proofs.number.keyword.Statement.{statement}

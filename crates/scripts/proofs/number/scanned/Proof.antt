@@ -1,11 +1,9 @@
 -- `scripts::number::scanned` meets its contract. Assumes nothing.
-use Rattle.lines.specs.Machine.{opened}
-use Rattle.lines.specs.Words.{endWord}
+use Rattle.lines.specs.Machine.{opened, scan}
+use Rattle.lines.specs.Words.{endWord, allRows}
 use Rattle.lines.specs.declared.machine.Scan.the-variants.{Start}
 use Rattle.scripts.specs.Numbers.{afterEnd}
 use Rattle.lines.proofs.Runs.{scan-over, scan-on}
-use Rattle.lines.specs.Machine.{scan}
-use Rattle.lines.specs.Words.{allRows}
 use lib.Seq.{slice, slice-empty, take-length}
 use lib.ListN.{length}
 use mathlib.Core.Path.{_≡_, sym, _∙_}

@@ -1,0 +1,157 @@
+-- `desk::deed::deed` meets its contract. Assumes nothing.
+use mathlib.Core.Path.{ap}
+use Rattle.catalogue.specs.Call.{outcome}
+use Rattle.desk.specs.declared.Said.the-variants.{Done, Closed}
+use Rattle.desk.specs.Desk.{Put, answered}
+use borrow.Author.Needs.{needs}
+use Rattle.desk.proofs.deed.deed.Statement.{statement}
+use Rattle.desk.proofs.deed.deed.Tie as tie
+
+enum-known-x : tie.Need-enum-known-x
+enum-known-x c = search needs
+
+word-requires : tie.Need-word-requires
+word-requires c κs = search needs
+
+enum-known-x-2 : tie.Need-enum-known-x-2
+enum-known-x-2 c = search needs
+
+format-requires : tie.Need-format-requires
+format-requires c κs = search needs
+
+enum-known-x-3 : tie.Need-enum-known-x-3
+enum-known-x-3 c = search needs
+
+commit-requires : tie.Need-commit-requires
+commit-requires c κs = search needs
+
+enum-known-x-4 : tie.Need-enum-known-x-4
+enum-known-x-4 c = search needs
+
+open-requires : tie.Need-open-requires
+open-requires c κs = search needs
+
+enum-known-x-5 : tie.Need-enum-known-x-5
+enum-known-x-5 c = search needs
+
+trace-requires : tie.Need-trace-requires
+trace-requires c κs = search needs
+
+enum-known-x-6 : tie.Need-enum-known-x-6
+enum-known-x-6 c = search needs
+
+close-requires : tie.Need-close-requires
+close-requires c κs = search needs
+
+enum-known-x-7 : tie.Need-enum-known-x-7
+enum-known-x-7 c = search needs
+
+recover-requires : tie.Need-recover-requires
+recover-requires c κs = search needs
+
+enum-known-x-8 : tie.Need-enum-known-x-8
+enum-known-x-8 c = search needs
+
+same-length : tie.Need-same-length
+same-length c = search needs
+
+returns : tie.Need-returns
+returns c = rw (c .before .before .before .before .before .x .given .1) (ap (λ (p : Put). outcome (p .said) (p .list) (c .before .before .before .before .before .before .before .before .before .args .log .now)) (c .before .before .word .ensures))
+
+same-length-2 : tie.Need-same-length-2
+same-length-2 c = search needs
+
+same-length-3 : tie.Need-same-length-3
+same-length-3 c = search needs
+
+returns-2 : tie.Need-returns-2
+returns-2 c = rw (c .before .before .before .before .before .before .before .before .x2 .given .1) (ap (answered Done) (c .before .before .before .before .format .ensures))
+
+same-length-4 : tie.Need-same-length-4
+same-length-4 c = search needs
+
+same-length-5 : tie.Need-same-length-5
+same-length-5 c = search needs
+
+returns-3 : tie.Need-returns-3
+returns-3 c = rw (c .before .before .before .before .before .before .before .before .x3 .given .1) (ap (answered Done) (c .before .before .before .before .commit .ensures))
+
+same-length-6 : tie.Need-same-length-6
+same-length-6 c = search needs
+
+same-length-7 : tie.Need-same-length-7
+same-length-7 c = search needs
+
+returns-4 : tie.Need-returns-4
+returns-4 c = rw (c .before .before .before .before .before .before .before .before .x4 .given .1) (ap (answered Done) (c .before .before .before .before .open .ensures))
+
+same-length-8 : tie.Need-same-length-8
+same-length-8 c = search needs
+
+same-length-9 : tie.Need-same-length-9
+same-length-9 c = search needs
+
+returns-5 : tie.Need-returns-5
+returns-5 c = rw (c .before .before .before .before .before .before .before .before .x5 .given .1) (ap (answered Done) (c .before .before .before .before .trace .ensures))
+
+same-length-10 : tie.Need-same-length-10
+same-length-10 c = search needs
+
+same-length-11 : tie.Need-same-length-11
+same-length-11 c = search needs
+
+returns-6 : tie.Need-returns-6
+returns-6 c = rw (c .before .before .before .before .before .before .before .before .x6 .given .1) (ap (answered Closed) (c .before .before .before .before .close .ensures))
+
+same-length-12 : tie.Need-same-length-12
+same-length-12 c = search needs
+
+same-length-13 : tie.Need-same-length-13
+same-length-13 c = search needs
+
+returns-7 : tie.Need-returns-7
+returns-7 c = rw (c .before .before .before .before .before .before .x7 .given .1) (c .before .before .recover .ensures)
+
+returns-8 : tie.Need-returns-8
+returns-8 c = rw (c .before .x8 .given .1)
+
+pub deed-spec : {M : Type 1} → statement M
+deed-spec =
+    tie.close
+    (tie.spec
+    enum-known-x
+    word-requires
+    enum-known-x-2
+    format-requires
+    enum-known-x-3
+    commit-requires
+    enum-known-x-4
+    open-requires
+    enum-known-x-5
+    trace-requires
+    enum-known-x-6
+    close-requires
+    enum-known-x-7
+    recover-requires
+    enum-known-x-8
+    same-length
+    returns
+    same-length-2
+    same-length-3
+    returns-2
+    same-length-4
+    same-length-5
+    returns-3
+    same-length-6
+    same-length-7
+    returns-4
+    same-length-8
+    same-length-9
+    returns-5
+    same-length-10
+    same-length-11
+    returns-6
+    same-length-12
+    same-length-13
+    returns-7
+    returns-8)

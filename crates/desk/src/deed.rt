@@ -1,0 +1,44 @@
+// The deeds on what is lent.
+use crate::Said;
+use kinds::Operation;
+use scripts::order::Deed;
+ghost use mathlib.Core.Path.{_≡_};
+ghost use Rattle.catalogue.specs.Call.{outcome};
+ghost use Rattle.desk.specs.Desk.{deedOf, recoverFor, put, putWord};
+
+// One word of the image.
+fn word(i: usize, v: u32, img: &mut [u32]) -> Said
+    ensures { λ r. ⌜ put r (now (img .exit)) ≡ putWord i v (now (img .entry)) ⌝ }
+{
+    if i < img.len() {
+        img[i] = v;
+        return Said::Ok;
+    }
+    Said::What
+}
+
+// Recovery of the first n bytes of the log buffer.
+fn recover(n: usize, img: &mut [u32], log: &[u8]) -> Said
+    ensures { λ r. ⌜ outcome r (now (img .exit)) (now (log .entry)) ≡ recoverFor n (now (img .entry)) (now (log .entry)) ⌝ }
+{
+    if log.len() < n {
+        return Said::What;
+    }
+    Said::Recovered(recovery::recover(img, &log[..n]))
+}
+
+// A deed, with n operations waiting.
+pub(crate) fn deed(x: Deed, ops: [Operation; 32], n: usize, img: &mut [u32], log: &mut [u8]) -> Said
+    ensures { λ r. ⌜ outcome r (now (img .exit)) (now (log .exit)) ≡ deedOf x ops n (now (img .entry)) (now (log .entry)) ⌝ }
+{
+    match x {
+        Deed::Word(i, v) => word(i, v, img),
+        Deed::Format(p, s, at) => Said::Done(catalogue::format(img, p, s, log, at)),
+        Deed::Commit(at) => Said::Done(catalogue::commit(img, ops, n, log, at)),
+        Deed::Open(at) => Said::Done(catalogue::open(img, log, at)),
+        Deed::Trace(p, at) => Said::Done(catalogue::trace(img, p, log, at)),
+        Deed::Close(at) => Said::Closed(catalogue::close(img, log, at)),
+        Deed::Recover(k) => recover(k, img, &*log),
+        Deed::Look(l) => Said::Look(l),
+    }
+}

@@ -1,0 +1,67 @@
+// What a line is answered, as text. Nothing here can change what is lent: it is shared.
+use crate::answer::answered;
+use crate::answer::asked;
+use crate::answer::closed;
+use crate::answer::counted;
+use crate::answer::found;
+use crate::answer::ok;
+use crate::answer::recovered;
+use crate::answer::what;
+use crate::digest::digest;
+use crate::out::flush;
+use crate::show::show;
+use desk::Desk;
+use desk::Said;
+use scripts::order::Look;
+ghost use Rattle.desk.specs.Desk.{Lent};
+
+// The first n bytes of the lent buffer, as they are.
+fn front(n: usize, log: &[u8], out: &mut [u8; 4096], at: usize) -> usize {
+    if log.len() < n {
+        return what(out, at);
+    }
+    flush(&*out, at);
+    io::write_all(1, &log[..n]);
+    0
+}
+
+fn seen(l: Look, img: &[u32], log: &[u8], out: &mut [u8; 4096], at: usize) -> usize {
+    match l {
+        Look::Read(n) => found(out, at, catalogue::read(img, n)),
+        Look::Ask(n) => asked(out, at, catalogue::ask(img, n)),
+        Look::Digest => digest(out, at, img, log),
+        Look::Show => show(out, at, img),
+        Look::Log(n) => front(n, log, out, at),
+    }
+}
+
+// The same of the words and bytes that are lent.
+fn seen_on(l: Look, d: Desk, img: &[u32], log: &[u8], out: &mut [u8; 4096], at: usize) -> usize
+    requires { ⌜ Lent d (now img) (now log) ⌝ }
+{
+    let m = d.words;
+    let n = d.bytes;
+    seen(l, &img[..m], &log[..n], out, at)
+}
+
+pub(crate) fn say(
+    said: Said,
+    d: Desk,
+    img: &[u32; 6181],
+    log: &[u8; 65536],
+    out: &mut [u8; 4096],
+    at: usize,
+) -> usize
+    requires { ⌜ Lent d (now img) (now log) ⌝ }
+{
+    match said {
+        Said::Nothing => at,
+        Said::What => what(out, at),
+        Said::Ok => ok(out, at),
+        Said::Waits(n) => counted(out, at, b"waits", n),
+        Said::Done(a) => answered(out, at, a),
+        Said::Closed(c) => closed(out, at, c),
+        Said::Recovered(r) => recovered(out, at, r),
+        Said::Look(l) => seen_on(l, d, img, log, out, at),
+    }
+}
