@@ -46,7 +46,7 @@ same-length-3 : tie.Need-same-length-3 Inv-loop μ-loop
 same-length-3 c = let h = c .before .before .before .before .before .loop .inv .same in search (needs, h)
 
 returns-3 : tie.Need-returns-3 Inv-loop μ-loop
-returns-3 c = (search needs, going-large _ _ _ _ _ _ (c .before .before .before .before .before .loop .inv) _ _ (sym (c .before .before .before .before .next-number .ensures) ∙ c .before .before .v .given .1) (c .if1 .taken))
+returns-3 c = (search needs, going-large _ _ _ _ _ _ (c .before .before .before .before .before .loop .inv) _ _ (sym (c .before .before .before .before .next-number .ensures) ∙ c .before .before .v .given .1) (omega arith))
 
 same-length-4 : tie.Need-same-length-4 Inv-loop μ-loop
 same-length-4 c = let h = c .before .before .before .before .before .before .loop .inv .same in search (needs, h)
