@@ -1,4 +1,5 @@
--- No line lends more words and bytes than there are, and at most one more operation waits after it.
+-- No line lends more words and bytes than there are, and at most one more operation waits after it; and lines that only look, or that let an
+-- operation wait, leave image and log buffer as they are.
 -- Assumes nothing.
 use Prim.Native.Nat.{ℕ, _+_, _≤_}
 use native.Mathlib.Omega.{arith}
@@ -6,10 +7,12 @@ use mathlib.Core.Path.{_≡_, refl, sym, subst}
 use mathlib.Core.Bool.{Bool, true, false, cond}
 use mathlib.Core.List.{List, _++_}
 use lib.Dec.{leb}
-use lib.ListN.{length, drop, replicate}
+use lib.ListN.{length, drop, replicate, take-append-drop}
 use borrow.Author.Tests.{leb-true}
 use Rattle.kinds.specs.declared.Operation.{Operation}
+use Rattle.scripts.specs.declared.order.Look.{Look as A-look}
 use Rattle.scripts.specs.declared.order.Deed.{Deed as A-deed}
+use Rattle.scripts.specs.declared.order.Deed.the-variants.{Look}
 use Rattle.scripts.specs.declared.order.Order.{Order}
 use Rattle.scripts.specs.declared.order.Order.the-variants.{Nothing, What, Image, Buffer, Bytes, Wait, Deed}
 use Rattle.catalogue.specs.Call.{Outcome, outcome}
@@ -55,3 +58,18 @@ module _ (line : List ℕ) (d : Desk) (ops : List Operation) (img log : List ℕ
 
   pub step-stays : (o : Order) (t : Turn) (img′ log′ : List ℕ) → outcome t img′ log′ ≡ stepOf o line d ops img log → Stays d (t .desk) img log
   step-stays o t img′ log′ q = subst (λ (r : Outcome Turn). Stays d (r .answer .desk) img log) (sym q) (stays o)
+
+-- what only looks, waits, or is no command
+pub data Leaving : Order → Type 0 where
+  nothing : Leaving Nothing
+  what : Leaving What
+  waits : {o : Operation} → Leaving (Wait o)
+  looks : {l : A-look} → Leaving (Deed (Look l))
+
+pub leaves : (o : Order) → Leaving o → (line : List ℕ) (d : Desk) (ops : List Operation) (img log : List ℕ)
+    → ((stepOf o line d ops img log) .image ≡ img) × ((stepOf o line d ops img log) .log ≡ log)
+unfolding stepOf
+leaves Nothing nothing line d ops img log = (refl, refl)
+leaves What what line d ops img log = (refl, refl)
+leaves (Wait o) waits line d ops img log = (refl, refl)
+leaves (Deed (Look l)) looks line d ops img log = (take-append-drop (d .words) img, take-append-drop (d .bytes) log)
