@@ -32,13 +32,6 @@ pub both-self : (b : Bool) → both b true ≡ b
 both-self true = refl
 both-self false = refl
 
--- a chain of tests in code: the first that fails, and one that passes with the rest still to say
-pub stop : (a b : Bool) → a ≡ false → false ≡ both a b
-stop a b e = rw e
-
-pub pass : (a b r : Bool) → a ≡ true → r ≡ b → r ≡ both a b
-pass a b r e q = rw e q
-
 pub bit-le : (b : Bool) → bit b ≤ 1
 bit-le true = omega arith
 bit-le false = omega arith
