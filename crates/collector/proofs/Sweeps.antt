@@ -32,6 +32,10 @@ module _ (S t : ℕ) (within : Bool) (x : Image) where
   unfolding passOver followAt pass
   pass-flat = each-flat fields (λ z j k. follow marked (mark S) (refers S (wanted S t within)) (target S) (λ s. t * S + s) S fields z (t * S + j) k) S x
 
+  -- a sweep over as many numbers as the partition has fields is a pass
+  pub pass-swept : {n : ℕ} {y : Image} → y ≡ each n (followAt S t within) x → n ≡ S * fields → y ≡ passOver S t within x
+  pass-swept e q = rw (pass-flat, ← q) e
+
 module _ (S t : ℕ) (x : Image) where
   pub inside-is : inside S t x ≡ again S (passOver S t true) x
   unfolding inside spread passOver
