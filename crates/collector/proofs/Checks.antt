@@ -1,11 +1,8 @@
 -- A check of a judge: where it passes the answer is that of the next, else it is the check's refusal.
 -- Assumes nothing.
 use Prim.Native.Nat.{ℕ}
-use mathlib.Core.Path.{_≡_, ap}
-use mathlib.Core.Bool.{Bool, true, false, not}
-use mathlib.Core.Logic.{_≢_}
-use lib.Dec.{eqb}
-use borrow.Author.Tests.{eq-eqb, ne-eqb}
+use mathlib.Core.Path.{_≡_}
+use mathlib.Core.Bool.{Bool, true, false}
 use Rattle.kinds.specs.Answers.{refuse}
 use Rattle.kinds.specs.declared.Verdict.{Verdict}
 use Rattle.model.specs.Judge.{check}
@@ -17,10 +14,3 @@ passes n e h q = rw h q
 pub stops : {b : Bool} {n e : ℕ} (v : Verdict) {r : Verdict} → b ≡ false → r ≡ refuse n e → r ≡ check b n e v
 unfolding check
 stops v h q = rw h q
-
--- the negated test, from the fact
-pub eq-not : (a b : ℕ) → a ≡ b → not (eqb a b) ≡ false
-eq-not a b q = ap not (eq-eqb a b q)
-
-pub ne-not : (a b : ℕ) → a ≢ b → not (eqb a b) ≡ true
-ne-not a b h = ap not (ne-eqb a b h)

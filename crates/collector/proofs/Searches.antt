@@ -1,6 +1,6 @@
 -- What each search tells a judge.
 -- Assumes nothing.
-use Prim.Native.Nat.{ℕ, _+_, _*_, _-_, _/_, _%_, _≤_, _<_}
+use Prim.Native.Nat.{ℕ, _+_, _*_, _/_, _%_, _≤_, _<_}
 use mathlib.Core.Path.{_≡_, refl, sym, ap}
 use mathlib.Core.Bool.{Bool, true, false, not, cond}
 use native.Mathlib.Omega.{arith}
@@ -17,7 +17,7 @@ use Rattle.model.specs.Acts.{marked, notClean}
 use Rattle.model.specs.Judge.{rooted, leadsOn, led, lowest}
 use Rattle.collector.proofs.Walks.{first-some, first-none, first-fails, first-every, tally-none-pass}
 use Rattle.collector.specs.declared.Sought.the-variants.{Rooted, Unclean, RootAstray, FieldAstray}
-use Rattle.collector.specs.Searches.{astray, meets}
+use Rattle.collector.specs.Searches.{meets}
 
 module _ (S : ℕ) (img : Image) where
   pub rooted-so : first roots 0 (meets S img Rooted) < roots → rooted img ≡ true

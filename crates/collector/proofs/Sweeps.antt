@@ -1,6 +1,6 @@
--- A pass is a sweep over the fields of a partition, the halves of a trace are passes, and every step and every act keeps an image within its bounds.
+-- A pass is a sweep over the fields of a partition, the halves of a trace are passes, and every step keeps an image within its bounds.
 -- Assumes nothing.
-use Prim.Native.Nat.{ℕ, _+_, _*_, _-_, _/_, _%_, _≤_, _<_}
+use Prim.Native.Nat.{ℕ, _+_, _*_, _/_, _%_, _≤_, _<_}
 use mathlib.Core.Path.{_≡_, refl, sym, _∙_, subst}
 use mathlib.Core.Bool.{Bool, true, false, not, cond}
 use native.Mathlib.Nat.{lt-of-lt-of-le}
@@ -11,10 +11,10 @@ use borrow.Author.Tests.{eqb-false, not-true}
 use Rattle.loops.specs.Loop.{both, each, again}
 use Rattle.loops.proofs.Tests.{both-true}
 use Rattle.loops.proofs.Loops.{each-keeps, again-keeps, tally-le}
-use Rattle.kinds.specs.Names.{mostPartitions, fields}
-use Rattle.model.specs.Image.{Image, head, root, flag, state, payload, field, phase, count, allowance, anchors, get, put, placeOf, partOf, release, a-root, a-field}
+use Rattle.kinds.specs.Names.{fields}
+use Rattle.model.specs.Image.{Image, head, root, flag, state, payload, field, get, put, placeOf, partOf, release, a-root, a-field}
 use Rattle.model.specs.Spread.{follow, pass, spread}
-use Rattle.model.specs.Acts.{marked, mark, refers, target, clear, settle, unclean, markRoots, allow, openUp, inside, outside, finish, traceOne, shut, closeUp, unmarked}
+use Rattle.model.specs.Acts.{marked, mark, refers, target, clear, settle, inside, outside, unmarked}
 use Rattle.model.proofs.Keys.{get-put-apart}
 use Rattle.image.specs.Within.{Within}
 use Rattle.image.proofs.Within.{part-in, within-put, within-release, within-mark, within-markWord}
@@ -31,6 +31,10 @@ module _ (S t : ℕ) (within : Bool) (x : Image) where
   pub pass-flat : passOver S t within x ≡ each (S * fields) (followAt S t within) x
   unfolding passOver followAt pass
   pass-flat = each-flat fields (λ z j k. follow marked (mark S) (refers S (wanted S t within)) (target S) (λ s. t * S + s) S fields z (t * S + j) k) S x
+
+  -- a sweep over as many numbers as the partition has fields is a pass
+  pub pass-swept : {n : ℕ} {y : Image} → y ≡ each n (followAt S t within) x → n ≡ S * fields → y ≡ passOver S t within x
+  pass-swept e q = rw (pass-flat, ← q) e
 
 module _ (S t : ℕ) (x : Image) where
   pub inside-is : inside S t x ≡ again S (passOver S t true) x
@@ -118,37 +122,6 @@ module _ (P S a t : ℕ) (x : Image) (l : a < 5) (m : t < P) where
 
 pub within-pass : (P S t : ℕ) (within : Bool) (x : Image) → Within P S x → t < P → Within P S (passOver S t within x)
 within-pass P S t within x h m = kept-pass P S 0 t x (omega arith) m within x record { bounds = h; word = refl } .bounds
-
--- every act leaves references that lead to places
-module _ (P S : ℕ) (x : Image) (h : Within P S x) where
-  pub within-open : Within P S (openUp P S x)
-  unfolding openUp allow markRoots unclean stepOf
-  within-open =
-      within-put P S _
-      (within-put P S _
-      (within-swept P S Roots anchors _ _ (within-swept P S Flags mostPartitions _ _ (within-put P S x h phase 1 (omega arith)) (λ i l. l) refl) (λ i l. l) refl)
-      count 0 (omega arith))
-      allowance _ (omega arith)
-
-  pub within-trace : (t : ℕ) → t < P → Within P S (traceOne S t x)
-  unfolding traceOne finish
-  within-trace t m =
-      within-put P S _
-      (within-put P S _
-      (rw (outside-is S t (inside S t x)) (within-pass P S t false (inside S t x) (kept-inside P S 0 t x (omega arith) m h .bounds) m))
-      (flag t) 1 (lt-of-lt-of-le m (h .small)))
-      count _ (omega arith)
-
-  pub within-close : Within P S (closeUp P S x)
-  unfolding closeUp shut unclean stepOf
-  within-close =
-      within-put P S _
-      (within-put P S _
-      (within-put P S _
-      (within-swept P S Flags mostPartitions _ _ (within-swept P S Slots (P * S) x _ h (λ i l. l) refl) (λ i l. l) refl)
-      phase 0 (omega arith))
-      count 0 (omega arith))
-      allowance 0 (omega arith)
 
 pub unmarked-le : (n : ℕ) (x : Image) → unmarked n x ≤ n
 unfolding unmarked

@@ -2,7 +2,6 @@
 use Prim.Native.Nat.{ℕ, _+_, _*_, _/_, _%_, _<_}
 use mathlib.Core.Bool.{Bool, cond}
 use Rattle.kinds.specs.Names.{mostPartitions, fields}
-use Rattle.kinds.specs.declared.Partition.{Partition}
 use Rattle.model.specs.Image.{Image, flag, root, count, anchors, get, put}
 use Rattle.model.specs.Spread.{follow, pass}
 use Rattle.model.specs.Acts.{marked, mark, markWord, refers, target, own, foreign, settle, unmarked}

@@ -9,7 +9,7 @@ ghost use mathlib.Core.Bool.{false};
 ghost use lib.ListN.{length};
 ghost use Rattle.kinds.specs.Names.{fields};
 ghost use Rattle.model.specs.Image.{count, get, placeOf, front, stride};
-ghost use Rattle.model.specs.Acts.{Act, opening, closing, trace, unmarked, clear, settle, openUp, inside, traceOne, closeUp};
+ghost use Rattle.model.specs.Acts.{opening, closing, trace, unmarked, clear, settle, openUp, inside, traceOne, closeUp};
 ghost use Rattle.model.specs.Judge.{judge, rooted, led};
 ghost use Rattle.loops.specs.Loop.{each, first};
 ghost use Rattle.image.specs.Within.{Within};

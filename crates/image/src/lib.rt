@@ -3,7 +3,7 @@
 // reference in range is `Within` (specs/Within.antt), which follows from soundness and is kept by every move (proofs/Within.antt).
 ghost use mathlib.Core.Path.{_≡_};
 ghost use mathlib.Core.Logic.{_≢_};
-ghost use Prim.Native.Nat.{_*_, _<_, _≤_};
+ghost use Prim.Native.Nat.{_*_, _^_, _<_, _≤_};
 ghost use lib.ListN.{length, replicate};
 ghost use Rattle.kinds.specs.Names.{mostPartitions, mostSlots};
 ghost use Rattle.model.specs.Image.{root, state, field, addr, lengthOf, size, blank, place, placeOf, partOf, refer, release};
@@ -30,9 +30,9 @@ pub const COUNT: usize = 3;
 
 pub const ALLOWANCE: usize = 4;
 
-// The place of a name.
+// The place of a name that is known to have one, whatever its numbers are.
 pub fn place(n: kinds::Name, s: usize) -> usize
-    requires { ⌜ (n .partition .0 < mostPartitions) × (n .slot .0 < mostSlots) × (s ≤ mostSlots) ⌝ }
+    requires { ⌜ place s n < 2 ^ 62 ⌝ }
     ensures { λ r. ⌜ r ≡ place s n ⌝ }
 {
     n.partition.0 as usize * s + n.slot.0 as usize

@@ -1,12 +1,12 @@
 -- Laws of the loops, in the order of specs/Loop.antt.
 -- Assumes nothing.
 use Prim.Native.Nat.{ℕ, zero, suc, _+_, _≤_, _<_}
-use mathlib.Core.Path.{_≡_, refl, sym, ap, _∙_, subst}
-use mathlib.Core.Bool.{Bool, true, false, cond, true≢false}
-use mathlib.Core.Logic.{_≢_, _⊎_, inl, inr, ⊎-elim}
+use mathlib.Core.Path.{_≡_, refl, sym, ap, subst}
+use mathlib.Core.Bool.{Bool, true, false, true≢false}
+use mathlib.Core.Logic.{_⊎_, ⊎-elim}
 use native.Mathlib.Nat.{le-of-suc-le-suc, not-suc-le-zero, eq-or-lt-of-le}
 use native.Mathlib.Omega.{arith}
-use Rattle.loops.specs.Loop.{each, again, tally, every, first, both, bit}
+use Rattle.loops.specs.Loop.{each, again, tally, every, bit}
 use Rattle.loops.proofs.Tests.{both-true, bit-le, bit-zero}
 
 module _ {X : Type 0} (Q : X → Type 0) where
@@ -101,13 +101,3 @@ every-false (suc n) f e = go (every n f) refl (λ q. every-false n f q)
     go : (b : Bool) → every n f ≡ b → (every n f ≡ false → (i : ℕ) × (i < n) × (f i ≡ false)) → (i : ℕ) × (i < suc n) × (f i ≡ false)
     go true q ih = (n, omega arith, (rw q at e))
     go false q ih = let r = ih q in (r .0, omega arith, r .2)
-
--- the lowest that passes is in range, passes, and none below it does
-pub first-found : (n i : ℕ) (f : ℕ → Bool) (j : ℕ) → i ≤ j → j < i + n → f j ≡ true → ((k : ℕ) → i ≤ k → k < j → f k ≡ false) → first n i f ≡ j
-unfolding first
-first-found zero i f j l m e h = absurd (omega arith)
-first-found (suc n) i f j l m e h = go (f i) refl (λ p q. first-found n (suc i) f j p q e (λ k a b. h k (omega arith) b))
-  where
-    go : (b : Bool) → f i ≡ b → (suc i ≤ j → j < suc i + n → first n (suc i) f ≡ j) → cond b i (first n (suc i) f) ≡ j
-    go true q r = ⊎-elim (λ z. z) (λ z. absurd (true≢false (sym q ∙ h i (omega arith) z))) (eq-or-lt-of-le l)
-    go false q r = ⊎-elim (λ z. absurd (true≢false (sym e ∙ (rw z at q)))) (λ z. r z (omega arith)) (eq-or-lt-of-le l)

@@ -1,12 +1,12 @@
 -- Laws of tests: what a passed or failed test tells, and the two ways of a number.
 -- Assumes nothing.
 use Prim.Native.Nat.{ℕ, _≤_, _<_}
-use mathlib.Core.Path.{_≡_, refl, sym, _∙_}
-use mathlib.Core.Bool.{Bool, true, false, true≢false}
+use mathlib.Core.Path.{_≡_, refl, sym, ap, _∙_}
+use mathlib.Core.Bool.{Bool, true, false, not, true≢false}
 use mathlib.Core.Logic.{_≢_, _⊎_, inl, inr}
 use native.Mathlib.Omega.{arith}
 use lib.Dec.{eqb, ltb}
-use borrow.Author.Tests.{eqb-true, eqb-false, ltb-true, ltb-false}
+use borrow.Author.Tests.{eqb-true, eqb-false, eq-eqb, ne-eqb, ltb-true, ltb-false}
 use Rattle.loops.specs.Loop.{both, bit}
 
 -- a test cannot both pass and fail
@@ -32,12 +32,12 @@ pub both-self : (b : Bool) → both b true ≡ b
 both-self true = refl
 both-self false = refl
 
--- a chain of tests in code: the first that fails, and one that passes with the rest still to say
-pub stop : (a b : Bool) → a ≡ false → false ≡ both a b
-stop a b e = rw e
+-- a negated test, from the fact
+pub eq-not : (a b : ℕ) → a ≡ b → not (eqb a b) ≡ false
+eq-not a b q = ap not (eq-eqb a b q)
 
-pub pass : (a b r : Bool) → a ≡ true → r ≡ b → r ≡ both a b
-pass a b r e q = rw e q
+pub ne-not : (a b : ℕ) → a ≢ b → not (eqb a b) ≡ true
+ne-not a b h = ap not (ne-eqb a b h)
 
 pub bit-le : (b : Bool) → bit b ≤ 1
 bit-le true = omega arith

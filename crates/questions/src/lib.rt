@@ -9,7 +9,7 @@ use kinds::Record;
 use kinds::Refusal;
 use kinds::Verdict;
 ghost use mathlib.Core.Path.{_≡_};
-ghost use Prim.Native.Nat.{ℕ, _+_, _*_, _^_, _≤_, _<_};
+ghost use Prim.Native.Nat.{ℕ, _+_, _*_, _≤_, _<_};
 ghost use lib.ListN.{length, replicate};
 ghost use Rattle.kinds.specs.Names.{mostSlots};
 ghost use Rattle.model.specs.Image.{place, front, stride};
@@ -24,14 +24,6 @@ fn wide(x: u32) -> usize
     x as usize
 }
 
-// The place of a name that is known to have one, whatever its numbers are.
-fn place(n: Name, s: usize) -> usize
-    requires { ⌜ place s n < 2 ^ 62 ⌝ }
-    ensures { λ r. ⌜ r ≡ place s n ⌝ }
-{
-    n.partition.0 as usize * s + n.slot.0 as usize
-}
-
 // What a question on a name is refused with: 7 for its numbers, then 9.
 pub fn judge_name(img: &[u32], p: usize, s: usize, n: Name) -> Verdict
     requires { ⌜ Within p s (now img) ⌝ }
@@ -43,7 +35,7 @@ pub fn judge_name(img: &[u32], p: usize, s: usize, n: Name) -> Verdict
     if s <= n.slot.0 as usize {
         return Verdict::refuse(Refusal::RANGE, 0);
     }
-    let j = place(n, s);
+    let j = image::place(n, s);
     if img[image::FRONT + image::STRIDE * j] == 0 {
         return Verdict::refuse(Refusal::ABSENT, 0);
     }
@@ -64,7 +56,7 @@ pub fn read(img: &[u32], s: usize, n: Name) -> Record
     requires { ⌜ front + stride * (place s n + 1) ≤ length (now img) ⌝ }
     ensures { λ r. ⌜ r ≡ Questions.readOf (now (img .entry)) (place s n) ⌝ }
 {
-    let j = place(n, s);
+    let j = image::place(n, s);
     let payload = img[image::FRONT + image::STRIDE * j + 1];
     let a = field_at(img, j, 0);
     let b = field_at(img, j, 1);
@@ -172,7 +164,7 @@ pub fn ask(img: &[u32], p: usize, s: usize, n: Name) -> bool
     requires { ⌜ place s n < p * s ⌝ }
     ensures { λ r. ⌜ r ≡ Questions.ask p s (now (img .entry)) (place s n) ⌝ }
 {
-    let j = place(n, s);
+    let j = image::place(n, s);
     let mut marks = zeros();
     let mut list = zeros();
     spread(img, p, s, &mut marks, &mut list);

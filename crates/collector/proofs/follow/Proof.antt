@@ -1,5 +1,5 @@
 -- `collector::follow` meets its contract. Assumes nothing.
-use mathlib.Core.Bool.{true, false, true≢false}
+use mathlib.Core.Bool.{true≢false}
 use Rattle.loops.specs.Loop.{both}
 use Rattle.collector.proofs.Sweeps.{slot-in}
 use Rattle.collector.specs.Sweeps.{wanted, followAt}

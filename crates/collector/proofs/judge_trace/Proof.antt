@@ -1,5 +1,6 @@
 -- `collector::judge_trace` meets its contract. Assumes nothing.
-use Rattle.collector.proofs.Checks.{passes, stops, eq-not, ne-not}
+use Rattle.loops.proofs.Tests.{eq-not, ne-not}
+use Rattle.collector.proofs.Checks.{passes, stops}
 use Rattle.model.specs.Judge.{judge}
 use Rattle.model.specs.Image.{get, addr}
 use native.Mathlib.Omega.{arith}

@@ -2,7 +2,7 @@
 use Rattle.collector.specs.Searches.{astray, meets}
 use Rattle.model.specs.Image.{get, addr, root, field, a-root, a-field}
 use native.Mathlib.Omega.{arith}
-use Prim.Native.Nat.{_<_, _-_, _*_, _/_, _%_}
+use Prim.Native.Nat.{_<_, _*_, _/_, _%_}
 use borrow.Author.Tests.{eq-eqb, ne-eqb}
 use borrow.Author.Needs.{needs}
 use Rattle.collector.proofs.meets.Statement.{statement}

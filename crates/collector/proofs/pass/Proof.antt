@@ -1,7 +1,7 @@
 -- `collector::pass` meets its contract. Assumes nothing.
 use Rattle.collector.specs.Sweeps.{stepOf}
-use Rattle.collector.proofs.Sweeps.{pass-flat}
-use mathlib.Core.Path.{sym, _∙_}
+use Rattle.collector.proofs.Sweeps.{pass-swept}
+use native.Mathlib.Omega.{arith}
 use borrow.Author.Needs.{needs}
 use Rattle.collector.proofs.pass.Statement.{statement}
 use Rattle.collector.proofs.pass.Tie as tie
@@ -17,7 +17,7 @@ same-length c = search needs
 
 returns : tie.Need-returns
 unfolding stepOf
-returns c = (c .before .before .each .ensures .0 ∙ sym (pass-flat _ _ _ _), c .before .before .each .ensures .1)
+returns c = (pass-swept _ _ _ _ (c .before .before .each .ensures .0) (omega arith), c .before .before .each .ensures .1)
 
 pub pass-spec : {M : Type 1} → statement M
 pass-spec = tie.close (tie.spec mul-each each-requires same-length returns)

@@ -3,7 +3,7 @@ use Rattle.collector.specs.Sweeps.{stepOf}
 use Rattle.model.specs.Image.{get, put, addr, root, a-root}
 use native.Mathlib.Omega.{arith}
 use mathlib.Core.Bool.{true≢false}
-use Prim.Native.Nat.{_<_, _-_, _*_}
+use Prim.Native.Nat.{_<_, _*_}
 use borrow.Author.Needs.{needs}
 use Rattle.collector.proofs.step.Statement.{statement}
 use Rattle.collector.proofs.step.Tie as tie
