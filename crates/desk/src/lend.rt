@@ -4,10 +4,8 @@ use crate::Said;
 use crate::Turn;
 use scripts::command::Next;
 use scripts::command::next_number;
-ghost use Prim.Native.Nat.{_≤_};
 ghost use mathlib.Core.Path.{_≡_};
-ghost use mathlib.Core.List.{_++_};
-ghost use lib.ListN.{length, take, drop, replicate};
+ghost use lib.ListN.{length, take, replicate};
 ghost use Rattle.io.specs.Counts.{Counts};
 ghost use Rattle.desk.specs.Desk.{lending, wordsFor, bytesFor, listedFrom, bytesOf, put, putAt, putFrom};
 
