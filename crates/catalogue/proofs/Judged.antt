@@ -23,7 +23,9 @@ use Rattle.model.proofs.Committing.{check-true}
 use Rattle.image.specs.Within.{Within}
 use Rattle.image.proofs.Within.{sound-within, product}
 use Rattle.questions.proofs.Naming.{accepted-in}
-use Rattle.catalogue.specs.Call.{judgeIn, judgeAct, judgeCommit, judgeObject}
+use Rattle.catalogue.specs.declared.Call.{Call}
+use Rattle.catalogue.specs.declared.Call.the-variants.{Open, Trace, Close, Object}
+use Rattle.catalogue.specs.Call.{judgeIn, judgeAct, judgeCommit, judgeObject, judgeCall}
 
 module _ (x : Image) where
   -- 1 where the image is not sound, else what the other checks say
@@ -34,6 +36,13 @@ module _ (x : Image) where
   pub passed : (v : Verdict) → isSound x ≡ true → v ≡ check (isSound x) 1 0 v
   unfolding check
   passed v e = rw e
+
+  pub unsound-call : (c : Call) → isSound x ≡ false → refuse 1 0 ≡ judgeCall x c
+  unfolding judgeAct judgeObject
+  unsound-call Open e = unsound _ e
+  unsound-call (Trace p) e = unsound _ e
+  unsound-call Close e = unsound _ e
+  unsound-call (Object n) e = unsound _ e
 
   pub sound-in : isSound x ≡ true → Within (get x partitions) (get x slots) x
   sound-in e = sound-within (get x partitions) (get x slots) x (sound-true x e)

@@ -20,6 +20,8 @@ use Rattle.model.specs.Questions.{readOf, ask}
 use Rattle.model.specs.Sound.{isSound}
 use Rattle.writer.specs.Record.{recordOf, headingOf}
 use Rattle.writer.specs.Write.{splice}
+use Rattle.catalogue.specs.declared.Call.{Call}
+use Rattle.catalogue.specs.declared.Call.the-variants.{Open, Trace, Close, Object}
 use Rattle.catalogue.specs.declared.Answer.{Answer}
 use Rattle.catalogue.specs.declared.Answer.the-variants.{Done, Refused as NotDone}
 use Rattle.catalogue.specs.declared.Closing.{Closing}
@@ -95,6 +97,13 @@ closeOf img log at = perform (closed img) NotClosed (judgeAct img closing) (reco
 -- READ and ASK 1, 7, 9
 unfoldable pub judgeObject : Image → Name → Verdict
 judgeObject img n = check (isSound img) 1 0 (judgeName (get img partitions) (get img slots) img n)
+
+-- the verdict on each call but format and commit
+abbrev pub judgeCall : Image → Call → Verdict
+judgeCall img Open = judgeAct img opening
+judgeCall img (Trace p) = judgeAct img (trace (p .0))
+judgeCall img Close = judgeAct img closing
+judgeCall img (Object n) = judgeObject img n
 
 -- refused: payload 0 and four nothings
 abbrev pub reading : Verdict → Record → Reading
