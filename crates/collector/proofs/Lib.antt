@@ -1,4 +1,1 @@
-pub mod Walks
-pub mod Searches
 pub mod Sweeps
-pub mod Checks

@@ -18,7 +18,7 @@ use Rattle.model.specs.Acts.{marked, mark, refers, target, clear, settle, insid
 use Rattle.model.proofs.Keys.{get-put-apart}
 use Rattle.image.specs.Within.{Within}
 use Rattle.image.proofs.Within.{part-in, within-put, within-release, within-mark, within-markWord}
-use Rattle.collector.proofs.Walks.{each-flat}
+use Rattle.loops.proofs.Walks.{each-flat}
 use Rattle.collector.specs.declared.Sweep.{Sweep}
 use Rattle.collector.specs.declared.Sweep.the-variants.{Flags, Roots, Slots, Fields}
 use Rattle.collector.specs.Sweeps.{wanted, passOver, followAt, stepOf, Reaches}

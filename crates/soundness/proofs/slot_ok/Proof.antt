@@ -1,7 +1,11 @@
 -- `soundness::slot_ok` meets its contract. Assumes nothing.
 use Rattle.soundness.specs.Checks.{stateOk}
-use Rattle.model.specs.Image.{get, addr}
+use Rattle.model.specs.Image.{payload, get, addr}
 use borrow.Author.Tests.{eq-eqb, ne-eqb, le-leb, lt-leb}
+use native.Mathlib.Omega.{arith}
+use mathlib.Core.Path.{_≡_}
+use mathlib.Core.Bool.{true}
+use lib.Dec.{eqb}
 use borrow.Author.Needs.{needs}
 use Rattle.soundness.proofs.slot_ok.Statement.{statement}
 use Rattle.soundness.proofs.slot_ok.Tie as tie
@@ -44,7 +48,9 @@ shared-slice-read-if3 c = search needs
 
 returns-3 : tie.Need-returns-3
 unfolding stateOk get addr
-returns-3 c = rw (le-leb _ _ (c .before .before .before .if1 .left), eq-eqb _ _ (c .before .before .if2 .left), eq-eqb _ _ (c .if3 .taken))
+returns-3 c = let a = c .before .before .before .before .before .args in
+    let empty : eqb (get (a .img .now) (payload (a .j))) 0 ≡ true = omega (arith, eq-eqb) in
+    rw (le-leb _ _ (c .before .before .before .if1 .left), eq-eqb _ _ (c .before .before .if2 .left), empty)
 
 returns-4 : tie.Need-returns-4
 unfolding stateOk get addr

@@ -39,7 +39,7 @@ returns-3 : tie.Need-returns-3 Inv-loop μ-loop
 unfolding keywordOf
 returns-3 c = let l = c .before .before .before .before .before .loop in
     let w = c .before .before .before .before .before .before .args .word .now in
-    coded-stop (l .k) w (l .i) (omega arith) (rw (le-ltb (l .k) (2 ^ 56) (c .if3 .taken)) (both-false (isLetter (getD w (l .i) 0)))) ∙ sym (l .inv)
+    coded-stop (l .k) w (l .i) (omega arith) (rw (le-ltb (l .k) (2 ^ 56) (search needs)) (both-false (isLetter (getD w (l .i) 0)))) ∙ sym (l .inv)
 
 mul-k : tie.Need-mul-k Inv-loop μ-loop
 mul-k c = search needs

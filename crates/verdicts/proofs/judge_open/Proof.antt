@@ -1,14 +1,14 @@
--- `collector::judge_open` meets its contract. Assumes nothing.
+-- `verdicts::judge_open` meets its contract. Assumes nothing.
 use Rattle.loops.proofs.Tests.{eq-not, ne-not}
-use Rattle.collector.proofs.Checks.{passes, stops}
+use Rattle.verdicts.proofs.Checks.{passes, stops}
 use Rattle.model.specs.Judge.{judge}
 use Rattle.model.specs.Image.{get, addr}
 use native.Mathlib.Omega.{arith}
 use mathlib.Core.Path.{refl, sym, _∙_}
 use borrow.Author.Tests.{not-true, not-false}
 use borrow.Author.Needs.{needs}
-use Rattle.collector.proofs.judge_open.Statement.{statement}
-use Rattle.collector.proofs.judge_open.Tie as tie
+use Rattle.verdicts.proofs.judge_open.Statement.{statement}
+use Rattle.verdicts.proofs.judge_open.Tie as tie
 
 shared-slice-read-if1 : tie.Need-shared-slice-read-if1
 shared-slice-read-if1 c = search needs

@@ -1,9 +1,9 @@
--- `collector::led` meets its contract. Assumes nothing.
-use Rattle.collector.proofs.Searches.{led-root, led-field, led-so}
+-- `verdicts::led` meets its contract. Assumes nothing.
+use Rattle.verdicts.proofs.Searches.{led-root, led-field, led-so}
 use mathlib.Core.Path.{sym}
 use borrow.Author.Needs.{needs}
-use Rattle.collector.proofs.led.Statement.{statement}
-use Rattle.collector.proofs.led.Tie as tie
+use Rattle.verdicts.proofs.led.Statement.{statement}
+use Rattle.verdicts.proofs.led.Tie as tie
 
 first-requires : tie.Need-first-requires
 first-requires c κs = search needs

@@ -15,9 +15,9 @@ use Rattle.kinds.specs.Names.{roots, fields}
 use Rattle.model.specs.Image.{Image, root, flag, field, anchors, get}
 use Rattle.model.specs.Acts.{marked, notClean}
 use Rattle.model.specs.Judge.{rooted, leadsOn, led, lowest}
-use Rattle.collector.proofs.Walks.{first-some, first-none, first-fails, first-every, tally-none-pass}
-use Rattle.collector.specs.declared.Sought.the-variants.{Rooted, Unclean, RootAstray, FieldAstray}
-use Rattle.collector.specs.Searches.{meets}
+use Rattle.loops.proofs.Walks.{first-some, first-none, first-fails, first-every, tally-none-pass}
+use Rattle.verdicts.specs.declared.Sought.the-variants.{Rooted, Unclean, RootAstray, FieldAstray}
+use Rattle.verdicts.specs.Searches.{meets}
 
 module _ (S : ℕ) (img : Image) where
   pub rooted-so : first roots 0 (meets S img Rooted) < roots → rooted img ≡ true

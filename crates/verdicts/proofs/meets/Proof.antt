@@ -1,12 +1,12 @@
--- `collector::meets` meets its contract. Assumes nothing.
-use Rattle.collector.specs.Searches.{astray, meets}
+-- `verdicts::meets` meets its contract. Assumes nothing.
+use Rattle.verdicts.specs.Searches.{astray, meets}
 use Rattle.model.specs.Image.{get, addr, root, field, a-root, a-field}
 use native.Mathlib.Omega.{arith}
 use Prim.Native.Nat.{_<_, _*_, _/_, _%_}
 use borrow.Author.Tests.{eq-eqb, ne-eqb}
 use borrow.Author.Needs.{needs}
-use Rattle.collector.proofs.meets.Statement.{statement}
-use Rattle.collector.proofs.meets.Tie as tie
+use Rattle.verdicts.proofs.meets.Statement.{statement}
+use Rattle.verdicts.proofs.meets.Tie as tie
 
 -- in each arm: the number is in reach
 in-roots : (c : tie.After-enum-told) → c .before .before .before .args .i < 16

@@ -1,14 +1,14 @@
--- `collector::first` meets its contract. Assumes nothing.
-use Rattle.collector.proofs.Walks.{first-here, first-on, first-end}
-use Rattle.collector.specs.Searches.{meets}
+-- `verdicts::first` meets its contract. Assumes nothing.
+use Rattle.loops.proofs.Walks.{first-here, first-on, first-end}
+use Rattle.verdicts.specs.Searches.{meets}
 use Rattle.loops.specs.Loop.{first}
 use native.Mathlib.Nat.{lt-of-lt-of-le}
 use native.Mathlib.Omega.{arith}
 use mathlib.Core.Path.{_≡_, sym, ap, _∙_}
 use Prim.Native.Nat.{ℕ, _≤_, _-_}
 use borrow.Author.Needs.{needs}
-use Rattle.collector.proofs.first.Statement.{statement}
-use Rattle.collector.proofs.first.Tie as tie
+use Rattle.verdicts.proofs.first.Statement.{statement}
+use Rattle.verdicts.proofs.first.Tie as tie
 
 abbrev Inv-loop : tie.InvT-loop
 Inv-loop img p s t n i₀ i = (i ≤ n) × (first n 0 (meets s img t) ≡ first (n - i) i (meets s img t))

@@ -1,17 +1,17 @@
--- `collector::judge_close` meets its contract. Assumes nothing.
+-- `verdicts::judge_close` meets its contract. Assumes nothing.
 use mathlib.Core.Bool.{true}
 use lib.Dec.{eqb}
 use Rattle.model.specs.Acts.{notClean}
-use Rattle.collector.proofs.Searches.{lowest-is, unclean-some, unclean-none}
-use Rattle.collector.proofs.Checks.{passes, stops}
+use Rattle.verdicts.proofs.Searches.{lowest-is, unclean-some, unclean-none}
+use Rattle.verdicts.proofs.Checks.{passes, stops}
 use Rattle.model.specs.Judge.{judge, rooted}
 use Rattle.model.specs.Image.{get, addr}
 use native.Mathlib.Omega.{arith}
 use mathlib.Core.Path.{_≡_, refl, sym, _∙_}
 use borrow.Author.Tests.{eq-eqb, ne-eqb, not-true, not-false}
 use borrow.Author.Needs.{needs}
-use Rattle.collector.proofs.judge_close.Statement.{statement}
-use Rattle.collector.proofs.judge_close.Tie as tie
+use Rattle.verdicts.proofs.judge_close.Statement.{statement}
+use Rattle.verdicts.proofs.judge_close.Tie as tie
 
 shared-slice-read-if1 : tie.Need-shared-slice-read-if1
 shared-slice-read-if1 c = search needs

@@ -7,8 +7,8 @@ use Rattle.kinds.specs.Names.{roots, fields}
 use Rattle.model.specs.Image.{Image, root, flag, field, anchors, get, placeOf}
 use Rattle.model.specs.Acts.{marked}
 use Rattle.model.specs.Judge.{leadsOn}
-use Rattle.collector.specs.declared.Sought.{Sought}
-use Rattle.collector.specs.declared.Sought.the-variants.{Rooted, Unclean, RootAstray, FieldAstray}
+use Rattle.verdicts.specs.declared.Sought.{Sought}
+use Rattle.verdicts.specs.declared.Sought.the-variants.{Rooted, Unclean, RootAstray, FieldAstray}
 
 -- a reference word leads to an unmarked object
 unfoldable pub astray : ℕ → Image → ℕ → Bool

@@ -1,14 +1,14 @@
--- `collector::judge_trace` meets its contract. Assumes nothing.
+-- `verdicts::judge_trace` meets its contract. Assumes nothing.
 use Rattle.loops.proofs.Tests.{eq-not, ne-not}
-use Rattle.collector.proofs.Checks.{passes, stops}
+use Rattle.verdicts.proofs.Checks.{passes, stops}
 use Rattle.model.specs.Judge.{judge}
 use Rattle.model.specs.Image.{get, addr}
 use native.Mathlib.Omega.{arith}
 use mathlib.Core.Path.{refl}
 use borrow.Author.Tests.{eq-eqb, ne-eqb, lt-ltb, le-ltb}
 use borrow.Author.Needs.{needs}
-use Rattle.collector.proofs.judge_trace.Statement.{statement}
-use Rattle.collector.proofs.judge_trace.Tie as tie
+use Rattle.verdicts.proofs.judge_trace.Statement.{statement}
+use Rattle.verdicts.proofs.judge_trace.Tie as tie
 
 shared-slice-read-phase : tie.Need-shared-slice-read-phase
 shared-slice-read-phase c = search needs

@@ -1,13 +1,13 @@
--- `collector::astray` meets its contract. Assumes nothing.
+-- `verdicts::astray` meets its contract. Assumes nothing.
 use Prim.Native.Nat.{_+_, _*_, _<_}
 use lib.ListN.{length}
-use Rattle.collector.specs.Searches.{astray}
+use Rattle.verdicts.specs.Searches.{astray}
 use Rattle.model.specs.Image.{get, addr, placeOf}
 use native.Mathlib.Omega.{arith}
 use borrow.Author.Tests.{eq-eqb, ne-eqb}
 use borrow.Author.Needs.{needs}
-use Rattle.collector.proofs.astray.Statement.{statement}
-use Rattle.collector.proofs.astray.Tie as tie
+use Rattle.verdicts.proofs.astray.Statement.{statement}
+use Rattle.verdicts.proofs.astray.Tie as tie
 
 returns : tie.Need-returns
 unfolding astray

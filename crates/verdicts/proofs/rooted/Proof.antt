@@ -1,9 +1,9 @@
--- `collector::rooted` meets its contract. Assumes nothing.
-use Rattle.collector.proofs.Searches.{rooted-so, rooted-not}
+-- `verdicts::rooted` meets its contract. Assumes nothing.
+use Rattle.verdicts.proofs.Searches.{rooted-so, rooted-not}
 use mathlib.Core.Path.{sym}
 use borrow.Author.Needs.{needs}
-use Rattle.collector.proofs.rooted.Statement.{statement}
-use Rattle.collector.proofs.rooted.Tie as tie
+use Rattle.verdicts.proofs.rooted.Statement.{statement}
+use Rattle.verdicts.proofs.rooted.Tie as tie
 
 cast-n : tie.Need-cast-n
 cast-n c = search needs
