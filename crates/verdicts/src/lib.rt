@@ -92,7 +92,7 @@ fn first(img: &[u32], p: usize, s: usize, t: Sought, n: usize) -> usize
 }
 
 // A root is in use.
-pub fn rooted(img: &[u32], p: usize, s: usize) -> bool
+fn rooted(img: &[u32], p: usize, s: usize) -> bool
     requires { ⌜ Within p s (now img) ⌝ }
     ensures { λ r. ⌜ r ≡ rooted (now (img .entry)) ⌝ }
 {
