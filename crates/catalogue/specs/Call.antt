@@ -18,7 +18,7 @@ use Rattle.model.specs.Acts.{Act, commit, opening, closing, trace, unmarked, ap
 use Rattle.model.specs.Judge.{check, judge, judgeFormat, judgeName}
 use Rattle.model.specs.Questions.{readOf, ask}
 use Rattle.model.specs.Sound.{isSound}
-use Rattle.writer.specs.Record.{recordOf, headingOf}
+use Rattle.writer.specs.Record.{recordOf, newest, headingOf}
 use Rattle.writer.specs.Write.{splice}
 use Rattle.catalogue.specs.declared.Call.{Call}
 use Rattle.catalogue.specs.declared.Call.the-variants.{Open, Trace, Close, Object}
@@ -68,7 +68,7 @@ judgeCommit img ops n = check (isSound img) 1 0 (check (leb n mostOperations) 6 
 
 -- FORMAT 2, 17
 unfoldable pub formatOf : Image → ℕ → ℕ → List ℕ → ℕ → Outcome Answer
-formatOf img P S log at = perform Done NotDone (judgeFormat P S (lengthOf img)) (headingOf P S) (blank P S) img log at
+formatOf img P S log at = perform Done NotDone (judgeFormat P S (lengthOf img)) (headingOf (newest P S)) (blank P S) img log at
 
 -- an act's call: 1, the act's own list, 17
 unfoldable pub callOf : Image → Act → List ℕ → ℕ → Outcome Answer

@@ -28,7 +28,13 @@ fn recover(n: usize, img: &mut [u32], log: &[u8]) -> Said
 }
 
 // A deed, with n operations waiting.
-pub(crate) fn deed(x: Deed, ops: [Operation; 32], n: usize, img: &mut [u32], log: &mut [u8]) -> Said
+pub(crate) fn deed(
+    x: Deed,
+    ops: [Operation; Operation::LIMIT],
+    n: usize,
+    img: &mut [u32],
+    log: &mut [u8],
+) -> Said
     ensures { λ r. ⌜ outcome r (now (img .exit)) (now (log .exit)) ≡ deedOf x ops n (now (img .entry)) (now (log .entry)) ⌝ }
 {
     match x {

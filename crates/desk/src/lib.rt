@@ -118,7 +118,13 @@ fn is_commit(x: Deed) -> bool
 }
 
 // A deed on what is lent.
-fn deed_on(x: Deed, d: Desk, ops: [Operation; 32], img: &mut [u32], log: &mut [u8]) -> Said
+fn deed_on(
+    x: Deed,
+    d: Desk,
+    ops: [Operation; Operation::LIMIT],
+    img: &mut [u32],
+    log: &mut [u8],
+) -> Said
     requires { ⌜ Lent d (now img) (now log) ⌝ }
     ensures { λ r. ⌜ outcome r (now (img .exit)) (now (log .exit)) ≡ onLent d (deedOf x ops (d .waits)) (now (img .entry)) (now (log .entry)) ⌝ }
 {
@@ -140,7 +146,7 @@ pub fn step(
     o: Order,
     line: &[u8],
     d: Desk,
-    ops: [Operation; 32],
+    ops: [Operation; Operation::LIMIT],
     img: &mut [u32],
     log: &mut [u8],
 ) -> Turn

@@ -72,15 +72,18 @@ module _ (f : ℕ → Bool) where
       go true e r l = e
       go false e r l = r (omega arith)
 
-  pub first-none : (n i : ℕ) → i + n ≤ first n i f → (k : ℕ) → i ≤ k → k < i + n → f k ≡ false
+  -- none below it does
+  pub first-below : (n i k : ℕ) → i ≤ k → k < first n i f → f k ≡ false
   unfolding first
-  first-none zero i l k a b = absurd (omega arith)
-  first-none (suc n) i l k a b = go (f i) refl (first-none n (suc i)) l
+  first-below zero i k a b = absurd (omega arith)
+  first-below (suc n) i k a b = go (f i) refl (first-below n (suc i) k) b
     where
-      go : (c : Bool) → f i ≡ c → (suc i + n ≤ first n (suc i) f → (j : ℕ) → suc i ≤ j → j < suc i + n → f j ≡ false)
-          → i + suc n ≤ cond c i (first n (suc i) f) → f k ≡ false
+      go : (c : Bool) → f i ≡ c → (suc i ≤ k → k < first n (suc i) f → f k ≡ false) → k < cond c i (first n (suc i) f) → f k ≡ false
       go true e r m = absurd (omega arith)
-      go false e r m = ⊎-elim (λ q. subst (λ (j : ℕ). f j ≡ false) q e) (λ q. r (omega arith) k q (omega arith)) (eq-or-lt-of-le a)
+      go false e r m = ⊎-elim (λ q. subst (λ (j : ℕ). f j ≡ false) q e) (λ q. r q m) (eq-or-lt-of-le a)
+
+  pub first-none : (n i : ℕ) → i + n ≤ first n i f → (k : ℕ) → i ≤ k → k < i + n → f k ≡ false
+  first-none n i l k a b = first-below n i k a (omega arith)
 
 -- none of n passes
 pub tally-none-pass : (n : ℕ) (f : ℕ → Bool) → ((i : ℕ) → i < n → f i ≡ false) → tally n f ≡ 0

@@ -4,10 +4,8 @@ use Prim.Native.Nat.{ℕ, _+_}
 use mathlib.Core.Path.{_≡_, refl}
 use mathlib.Core.List.{List, [], _∷_, _++_}
 use Rattle.loops.specs.Loop.{each, again, tally, every, first}
-use Rattle.kinds.specs.Names.{named, wordOf}
-use Rattle.kinds.specs.declared.Target.the-variants.{Nothing, Object}
-use Rattle.kinds.specs.declared.Operation.{Operation}
-use Rattle.kinds.specs.declared.Operation.the-variants.{New, Set, Val, Root}
+use Rattle.kinds.specs.Names.{wordOf}
+use Rattle.kinds.specs.Operations.{new, set-to, val, root-to, unroot, three}
 use Rattle.kinds.specs.declared.Verdict.{Verdict}
 use Rattle.kinds.specs.declared.Verdict.the-variants.{Accepted, Refused}
 use Rattle.model.specs.Image.{Image, count, allowance, addr, get, put, lengthOf, blank, placeOf, partOf, refer, release}
@@ -20,7 +18,6 @@ use Rattle.model.specs.History.{unrooted}
 -- objects, which a close frees
 pub data Row : Type 0 where
   number : ℕ → Row
-  layout : ℕ → ℕ → ℕ → Row
   refused : ℕ → ℕ → Row
   accepted : ℕ → ℕ → ℕ → Row
 
@@ -49,25 +46,6 @@ after img (a ∷ rest) = after (next (judge 2 4 img a) img (apply 2 4 img a)) re
 abbrev pub says : List Act → Act → Row
 says acts a = let img = after (blank 2 4) acts in row (judge 2 4 img a) img
 
-abbrev pub new : ℕ → ℕ → ℕ → Operation
-new p s v = New (named p s) v
-
-abbrev pub set-to : ℕ → ℕ → ℕ → ℕ → ℕ → Operation
-set-to p s k q t = Set (named p s) k (Object (named q t))
-
-abbrev pub root-to : ℕ → ℕ → ℕ → Operation
-root-to r q t = Root r (Object (named q t))
-
-abbrev pub val : ℕ → ℕ → ℕ → Operation
-val p s v = Val (named p s) v
-
-abbrev pub unroot : ℕ → Operation
-unroot r = Root r Nothing
-
--- the paper's log: three objects in a chain from root 0
-abbrev pub three : List Operation
-three = new 0 0 10 ∷ new 1 0 20 ∷ new 0 1 30 ∷ set-to 0 0 0 1 0 ∷ set-to 1 0 0 0 1 ∷ root-to 0 0 0 ∷ []
-
 -- root to (0,0), the others unreferenced; both partitions traced, so that (0,0) alone is marked and both are clean
 abbrev traced-all : List Act
 traced-all = commit (new 0 0 1 ∷ new 0 1 2 ∷ new 1 0 3 ∷ new 1 1 4 ∷ root-to 0 0 0 ∷ []) ∷ opening ∷ trace 0 ∷ trace 1 ∷ []
@@ -85,8 +63,10 @@ pub shortcuts :
     case (says (traced-all ++ (trace 0 ∷ commit (val 0 0 9 ∷ []) ∷ [])) closing) (accepted 5 2 3) ∷
     -- a trace marks what it reaches and no more, and it marks that
     case (says (commit three ∷ commit (new 1 1 40 ∷ []) ∷ opening ∷ trace 0 ∷ []) (trace 1)) (accepted 5 1 2) ∷
+    -- a partition that was clean is not, once a trace of another marks an object of it
+    case (says (commit three ∷ opening ∷ trace 0 ∷ trace 1 ∷ []) closing) (refused 14 0) ∷
     -- the allowance is P plus the objects in use that no root names
     case (number (2 + unrooted 2 4 (after (blank 2 4) (commit three ∷ [])))) (number 4) ∷
     [])
 unfolding addr get put lengthOf blank placeOf partOf wordOf refer release each again tally every first follow pass spread mark markWord store born perform performAll unmarked notClean unclean markRoots allow openUp inside outside finish traceOne clear settle shut closeUp apply check andThen judgeOp judgeOps rooted led lowest judge unrooted
-shortcuts = (refl, (refl, (refl, (refl, (refl, (refl, tt))))))
+shortcuts = (refl, (refl, (refl, (refl, (refl, (refl, (refl, tt)))))))

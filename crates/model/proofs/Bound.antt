@@ -2,17 +2,18 @@
 -- Assumes nothing.
 use Prim.Native.Nat.{ℕ, _+_, _*_, _≤_, _<_}
 use mathlib.Core.Path.{_≡_, refl, ap, _∙_}
+use mathlib.Core.Bool.{false}
 use mathlib.Core.List.{List}
 use native.Mathlib.Omega.{arith}
 use Rattle.loops.proofs.Tests.{clash}
 use Rattle.kinds.specs.declared.Operation.{Operation}
-use Rattle.model.specs.Image.{Image, head, flag, count, allowance, get, put}
+use Rattle.model.specs.Image.{Image, Key, flag, state, count, allowance, get}
 use Rattle.model.specs.Acts.{Act, commit, opening, closing, trace, perform, inside, outside, finish, traceOne, apply}
 use Rattle.model.specs.Judge.{judge}
 use Rattle.model.specs.History.{Run, still, acted, traces, Unclosed, unrooted}
-use Rattle.model.proofs.Keys.{get-put-apart, sized-put, get-put-same}
+use Rattle.model.proofs.Keys.{Fits, same, get-put-apart, sized-put, get-put-same}
 use Rattle.model.proofs.Places.{Shape}
-use Rattle.model.proofs.Moves.{Phase, open-true}
+use Rattle.model.proofs.Moves.{Linked, Phase, open-true}
 use Rattle.model.proofs.Tracing.{MoreMarks, more-inside, more-outside, phase-trace}
 use Rattle.model.proofs.Committing.{check-true, Good, commit-keeps, phase-perform, perform-head}
 use Rattle.model.proofs.Opening.{Shut, open-count, phase-open, open-allows}
@@ -33,30 +34,33 @@ module _ (P S : ℕ) (shape : Shape P S) where
         allowed = perform-head P S shape z o 4 (omega arith) g ∙ q .allowed;
       }
 
-  counted-trace : (x : Image) (p c al : ℕ) → p < P → get x (flag p) ≡ 0 → Counted c al x → Counted (c + 1) al (traceOne S p x)
-  unfolding traceOne finish
+  -- a trace leaves every word that is no state, no flag and not the count
+  module _ (x : Image) (p : ℕ) (l : p < P) (w : Linked P S x) where
+    marks : MoreMarks P S shape x (inside S p x) × MoreMarks P S shape (inside S p x) (outside S p (inside S p x))
+    marks = let i = more-inside P S shape p l x w in (i, more-outside P S shape p l (inside S p x) (i .linked))
+
+    marks-other : (μ : Key) → Fits μ → ((t : ℕ) → same (state t) μ ≡ false) → ((q : ℕ) → same (flag q) μ ≡ false) → get (outside S p (inside S p x)) μ ≡ get x μ
+    marks-other μ f a b = marks .1 .words μ f a b ∙ marks .0 .words μ f a b
+
+    pub trace-other : (μ : Key) → Fits μ → ((t : ℕ) → same (state t) μ ≡ false) → ((q : ℕ) → same (flag q) μ ≡ false) → same count μ ≡ false
+        → get (traceOne S p x) μ ≡ get x μ
+    unfolding traceOne finish
+    trace-other μ f a b c =
+        get-put-apart _ count _ μ (omega arith) f c ∙ get-put-apart _ (flag p) 1 μ (omega arith) f (b p) ∙ marks-other μ f a b
+
+    trace-count : get (traceOne S p x) count ≡ get x count + 1
+    unfolding traceOne finish
+    trace-count =
+        get-put-same (P * S) _ count _ (sized-put _ _ _ _ (marks .1 .linked .size)) (omega arith) ∙
+        ap (λ (n : ℕ). n + 1) (marks-other count (omega arith) (λ t. refl) (λ q. refl))
+
+  pub counted-trace : (x : Image) (p c al : ℕ) → p < P → get x (flag p) ≡ 0 → Counted c al x → Counted (c + 1) al (traceOne S p x)
   counted-trace x p c al l f g =
       record {
         phase = phase-trace P S shape p l x (g .phase) f;
-        counted =
-            get-put-same (P * S) (put o (flag p) 1) count _ (sized-put _ _ _ _ (m .linked .size)) (omega arith) ∙
-            ap (λ (n : ℕ). n + 1) (more-head 3 (omega arith) ∙ g .counted);
-        allowed =
-            get-put-apart (put o (flag p) 1) count _ allowance (omega arith) (omega arith) refl ∙ get-put-apart o (flag p) 1 allowance (omega arith) (omega arith) refl ∙
-            more-head 4 (omega arith) ∙ g .allowed;
+        counted = trace-count x p l (g .phase .linked) ∙ ap (λ (n : ℕ). n + 1) (g .counted);
+        allowed = trace-other x p l (g .phase .linked) allowance (omega arith) (λ t. refl) (λ q. refl) refl ∙ g .allowed;
       }
-    where
-      o : Image
-      o = outside S p (inside S p x)
-
-      i : MoreMarks P S shape x (inside S p x)
-      i = more-inside P S shape p l x (g .phase .linked)
-
-      m : MoreMarks P S shape (inside S p x) o
-      m = more-outside P S shape p l (inside S p x) (i .linked)
-
-      more-head : (h : ℕ) → h < 5 → get o (head h) ≡ get x (head h)
-      more-head h lh = m .words (head h) lh (λ t. refl) (λ q. refl) ∙ i .words (head h) lh (λ t. refl) (λ q. refl)
 
   -- whatever is committed meanwhile and in whatever order partitions are traced
   pub counts : (x : Image) → Shut P S shape x → (acts : List Act) (y : Image) → Run P S (apply P S x opening) acts y → Unclosed acts → Counted (traces acts) (P + unrooted P S x) y

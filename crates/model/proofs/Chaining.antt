@@ -21,7 +21,7 @@ use Rattle.model.specs.Spread.{start, step}
 use Rattle.model.specs.Acts.{Act, commit, opening, closing, trace, mark, store, born, perform, performAll, openUp, target, inside, outside, finish, traceOne, apply}
 use Rattle.model.specs.Judge.{judgeOps, led, judge}
 use Rattle.model.specs.History.{Run, still, acted, Unclosed}
-use Rattle.model.specs.Chains.{Names, Leads, Step, op, traced, push, steps, birth, Above, bare, more, Since, last, before, Chain, from-root, created, stored-field, stored-root, along-held, toOpening, ChainTo}
+use Rattle.model.specs.Chains.{Names, Leads, Stays, Step, op, traced, push, steps, birth, Above, bare, more, Since, last, before, Chain, from-root, created, stored-field, stored-root, along-held, toOpening, ChainTo}
 use Rattle.model.proofs.Keys.{Fits, same, get-put-apart}
 use Rattle.model.proofs.Places.{Shape, slot-in, word-none, place-word}
 use Rattle.model.proofs.Moves.{Linked, Phase, open-true, phase-mark, phase-payload, phase-born, refer-state, refer-read}
@@ -30,12 +30,6 @@ use Rattle.model.proofs.Committing.{check-true, then-true, May, none, s
 use Rattle.model.proofs.Opening.{Shut, phase-open, open-marks, open-field}
 use Rattle.model.proofs.Closing.{the-payload, the-field, led-leads, close-state, close-kept}
 use Rattle.model.proofs.Reaching.{traced-is, closed-is, opened-is}
-
--- the object at place i stays as it is
-pub record Stays (x y : Image) (i : ℕ) : Type 0 where
-  pub used : get y (state i) ≡ 1
-  pub value : get y (payload i) ≡ get x (payload i)
-  pub fields : (k : ℕ) → k < 4 → get y (field i k) ≡ get x (field i k)
 
 renamed : {S : ℕ} {x y : Image} {κ : Key} {t : ℕ} → get y κ ≡ get x κ → Names S y κ t → Names S x κ t
 renamed e n = record { some = λ q. n .some (e ∙ q); target = rw (← e) (n .target) }

@@ -8,18 +8,20 @@ use mathlib.Core.List.{List, _++_}
 use mathlib.Core.Logic.{_≢_}
 use Rattle.kinds.specs.Answers.{refuse}
 use Rattle.kinds.specs.declared.Verdict.the-variants.{Accepted}
-use Rattle.model.specs.Image.{Image, flag, state, count, get, blank}
+use Rattle.model.specs.Image.{Image, flag, state, count, get}
 use Rattle.model.specs.Acts.{Act, opening, closing, trace, notClean, apply}
 use Rattle.model.specs.Judge.{inLimits, rooted, judge}
 use Rattle.model.specs.Sound.{isSound}
-use Rattle.model.specs.History.{Run, still, acted, traces, Unclosed, unrooted}
-use Rattle.model.specs.Chains.{Leads, ChainTo}
+use Rattle.model.specs.History.{Run, still, acted, traces, unrooted}
+use Rattle.model.specs.Chains.{Leads, Stays, ChainTo}
 use Rattle.model.proofs.Soundness.{limits-true}
 use Rattle.model.proofs.SoundnessActs.{reached-passes}
 use Rattle.model.proofs.Reaching.{is-shut, opened-is, reached}
 use Rattle.model.proofs.Refusing.{can-trace, can-close, never-15-16}
 use Rattle.model.proofs.Bound.{counts, at-most}
-use Rattle.model.proofs.Chaining.{Stays, close-keeps, close-frees}
+use Rattle.model.proofs.Chaining.{close-keeps, close-frees}
+use Rattle.model.proofs.Splitting.{InPhase}
+use Rattle.model.proofs.Progress.{Ends, progress}
 
 -- x is the heap at an accepted opening, after the history `earlier`; y is the heap in the phase, after the acts since
 pub record Demand-3 (P S : ℕ) (earlier : List Act) (x : Image) (acts : List Act) (y : Image) : Type 0 where
@@ -35,27 +37,29 @@ pub record Demand-3 (P S : ℕ) (earlier : List Act) (x : Image) (acts : List Ac
   pub keeps : judge P S y closing ≡ Accepted → (j : ℕ) → Leads S y j → Stays y (apply P S y closing) j
   pub frees : judge P S y closing ≡ Accepted → (j : ℕ) → j < P * S → (ChainTo S earlier x acts j → ⊥) → get (apply P S y closing) (state j) ≡ 0
   pub sound-after : judge P S y closing ≡ Accepted → isSound (apply P S y closing) ≡ true
+  -- tracing the lowest partition that is not clean, again and again, ends within the bound, and then the phase can close if a root is in use
+  pub progress : Ends P S (P + unrooted P S x) y
 
 pub run-append : {P S : ℕ} {x y z : Image} {earlier : List Act} (later : List Act) → Run P S x earlier y → Run P S y later z → Run P S x (later ++ earlier) z
 run-append _ r still = r
 run-append _ r (acted {acts = acts} a s j) = acted a (run-append acts r s) j
 
-pub demand-3 : (P S : ℕ) → inLimits P S ≡ true → (earlier : List Act) (x : Image) → Run P S (blank P S) earlier x → judge P S x opening ≡ Accepted
-    → (acts : List Act) (y : Image) → Run P S (apply P S x opening) acts y → Unclosed acts → Demand-3 P S earlier x acts y
-demand-3 P S limits earlier x r j acts y s u =
+pub demand-3 : (P S : ℕ) → inLimits P S ≡ true → {history : List Act} {y : Image} (o : InPhase P S history y) → Demand-3 P S (o .earlier) (o .x) (o .since) y
+demand-3 P S limits {y = y} o =
     let shape = limits-true P S limits in
-    let sh = is-shut P S shape x (reached P S shape earlier x r .sound) (opened-is P S shape x j) in
-    let whole = run-append acts (acted opening r j) s in
-    let c = counts P S shape x sh acts y s u in
+    let sh = is-shut P S shape (o .x) (reached P S shape (o .earlier) (o .x) (o .before) .sound) (opened-is P S shape (o .x) (o .opens)) in
+    let whole = run-append (o .since) (acted opening (o .before) (o .opens)) (o .run) in
+    let c = counts P S shape (o .x) sh (o .since) y (o .run) (o .unclosed) in
     let w = c .phase .linked in
     record {
-      bound = at-most P S shape x sh acts y s u;
+      bound = at-most P S shape (o .x) sh (o .since) y (o .run) (o .unclosed);
       counted = c .counted;
       sound = reached-passes P S limits whole;
       traceable = λ p l f. can-trace P S shape y p (c .phase) l f;
       closable = λ e q. can-close P S shape y (c .phase) e q;
       never = λ a e. never-15-16 P S shape y (reached P S shape _ y whole .heap) a e;
       keeps = λ k i l. close-keeps P S shape y w k i l;
-      frees = λ k i l n. close-frees P S shape earlier x sh acts y s u i l n;
+      frees = λ k i l n. close-frees P S shape (o .earlier) (o .x) sh (o .since) y (o .run) (o .unclosed) i l n;
       sound-after = λ k. reached-passes P S limits (acted closing whole k);
+      progress = progress P S shape y c;
     }

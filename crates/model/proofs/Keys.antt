@@ -1,19 +1,20 @@
 -- Keys and their words: which keys are in an image, when two differ, and the laws of get, put, refer and release. Nothing above opens any of these four.
 -- Assumes nothing.
-use Prim.Native.Nat.{ℕ, zero, suc, _+_, _*_, _-_, _≤_, _<_}
+use Prim.Native.Nat.{ℕ, zero, suc, _+_, _*_, _-_, _/_, _%_, _≤_, _<_}
 use mathlib.Core.Path.{_≡_, refl, sym, ap, _∙_}
 use mathlib.Core.Bool.{Bool, true, false}
 use mathlib.Core.List.{_∷_}
-use mathlib.Core.Logic.{_≢_}
+use mathlib.Core.Logic.{_≢_, ⊎-elim}
 use native.Mathlib.Omega.{arith}
 use lib.ListN.{getD, length, replicate, length-set, length-replicate}
-use lib.Seq.{getD-set-same, getD-set-other}
+use lib.Seq.{getD-set-same, getD-set-other, ext-getD}
 use lib.Dec.{eqb}
 use borrow.Author.Tests.{eqb-false, eq-eqb}
 use Rattle.loops.specs.Loop.{both, tally, bit}
-use Rattle.loops.proofs.Tests.{clash}
+use Rattle.loops.proofs.Tests.{clash, lt-or-ge}
 use Rattle.loops.proofs.Loops.{tally-same, tally-move}
 use Rattle.model.specs.Image.{Image, Key, head, root, flag, state, payload, field, anchors, front, stride, addr, get, put, lengthOf, size, blank, refer, release}
+pub use Rattle.model.specs.Effects.{In}
 
 -- a key whose address is no other key's
 abbrev pub Fits : Key → Type 0
@@ -23,15 +24,6 @@ Fits (flag p) = p < 16
 Fits (state j) = Unit {0}
 Fits (payload j) = Unit {0}
 Fits (field j k) = k < 4
-
--- a key that is in an image of n places
-abbrev pub In : ℕ → Key → Type 0
-In n (head h) = h < 5
-In n (root r) = r < anchors
-In n (flag p) = p < 16
-In n (state j) = j < n
-In n (payload j) = j < n
-In n (field j k) = (j < n) × (k < 4)
 
 -- an image of n places
 unfoldable pub Sized : ℕ → Image → Type 0
@@ -168,6 +160,22 @@ module _ (n S : ℕ) (img : Image) (κ : Key) where
   pub release-same : Sized n img → In n κ → get (release S img κ) κ ≡ 0
   unfolding release
   release-same z i = get-put-same n img κ 0 z i
+
+-- every word of an image of n places has a key, so two images that agree at each key are one
+key-at : (n a : ℕ) → a < front + stride * n → (κ : Key) × In n κ × (addr κ ≡ a)
+unfolding addr
+key-at n a l =
+    ⊎-elim (λ h. (head a, h, refl))
+    (λ h. ⊎-elim (λ r. (root (a - 5), omega arith, omega arith))
+    (λ r. ⊎-elim (λ f. (flag (a - 21), omega arith, omega arith))
+    (λ f. ⊎-elim (λ c. (state ((a - front) / stride), omega arith, omega arith))
+    (λ c. ⊎-elim (λ d. (payload ((a - front) / stride), omega arith, omega arith))
+    (λ d. (field ((a - front) / stride) ((a - front) % stride - 2), (omega arith, omega arith), omega arith))
+    (lt-or-ge ((a - front) % stride) 2)) (lt-or-ge ((a - front) % stride) 1)) (lt-or-ge a front)) (lt-or-ge a 21)) (lt-or-ge a 5)
+
+pub words-same : (n : ℕ) (y z : Image) → Sized n y → Sized n z → ((κ : Key) → In n κ → get y κ ≡ get z κ) → y ≡ z
+unfolding Sized get
+words-same n y z s t h = ext-getD 0 y z (s ∙ sym t) (λ a l. let k = key-at n a (omega arith) in rw (k .2) at (h (k .0) (k .1)))
 
 -- the length test and the size
 pub sized-length : (P S : ℕ) (img : Image) → lengthOf img ≡ size P S → Sized (P * S) img

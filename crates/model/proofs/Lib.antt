@@ -14,8 +14,11 @@ pub mod Reaching
 pub mod Refusing
 pub mod Bound
 pub mod Chaining
+pub mod Splitting
+pub mod Progress
 pub mod Bits
 pub mod Asking
 pub mod Quiet
 pub mod Demand
 pub mod Answers
+pub mod Effects

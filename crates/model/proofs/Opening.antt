@@ -36,13 +36,13 @@ module _ (P S : ℕ) (shape : Shape P S) where
     pub plain : (i : ℕ) → i < P * S → get x (state i) ≢ 2
 
   -- while the roots are marked: x is the heap before
-  record Ready (x y : Image) : Type 0 where
-    linked : Linked P S y
-    opened : get y phase ≡ 1
-    flags : (p : ℕ) → p < P → get y (flag p) ≡ 0
-    holders : (κ : Key) → Holder (P * S) κ → get y κ ≡ get x κ
+  pub record Ready (x y : Image) : Type 0 where
+    pub linked : Linked P S y
+    pub opened : get y phase ≡ 1
+    pub flags : (p : ℕ) → p < P → get y (flag p) ≡ 0
+    pub holders : (κ : Key) → Holder (P * S) κ → get y κ ≡ get x κ
     -- a state is as before, or a root's mark
-    states : (i : ℕ) → (get y (state i) ≡ get x (state i)) ⊎ ((get y (state i) ≡ 2) × ((r : ℕ) × (r < anchors) × Names S x (root r) i))
+    pub states : (i : ℕ) → (get y (state i) ≡ get x (state i)) ⊎ ((get y (state i) ≡ 2) × ((r : ℕ) × (r < anchors) × Names S x (root r) i))
 
   ready-mark : (x y : Image) (r : ℕ) → r < anchors → Ready x y → get y (root r) ≢ 0 → Ready x (mark S y (placeOf S (get y (root r))))
   ready-mark x y r l g ne =
@@ -70,7 +70,7 @@ module _ (P S : ℕ) (shape : Shape P S) where
   ready-root : (x y : Image) (r : ℕ) → r < anchors → Ready x y → Ready x (markWord S y (get y (root r)))
   ready-root x y r l g = mark-word-keeps P S shape (Ready x) y (get y (root r)) (λ ne. ready-mark x y r l g ne) (λ e. g)
 
-  abbrev started : Image → Image
+  abbrev pub started : Image → Image
   started x = unclean (put x phase 1)
 
   ready : (x : Image) → Linked P S x → Ready x (started x)
@@ -88,12 +88,12 @@ module _ (P S : ℕ) (shape : Shape P S) where
   pub open-started : (x : Image) → Linked P S x → Linked P S (unclean (put x phase 1))
   open-started x w = ready x w .linked
 
-  ready-roots : (x : Image) → Linked P S x → Ready x (markRoots S (started x))
+  pub ready-roots : (x : Image) → Linked P S x → Ready x (markRoots S (started x))
   unfolding markRoots
   ready-roots x w = each-keeps (Ready x) _ _ (λ y r l g. ready-root x y r l g) _ (ready x w)
 
   -- every root's object is marked
-  roots-marked : (x : Image) → Linked P S x → (r : ℕ) → r < anchors → get x (root r) ≢ 0 → get (markRoots S (started x)) (state (placeOf S (get x (root r)))) ≡ 2
+  pub roots-marked : (x : Image) → Linked P S x → (r : ℕ) → r < anchors → get x (root r) ≢ 0 → get (markRoots S (started x)) (state (placeOf S (get x (root r)))) ≡ 2
   unfolding markRoots
   roots-marked x w r l ne =
       each-reaches (λ y. Ready x y × (get y (state (placeOf S (get x (root r)))) ≡ 2)) _ _ (started x) r l
@@ -117,7 +117,7 @@ module _ (P S : ℕ) (shape : Shape P S) where
   unfolding allow
   allow-other a μ f c e = get-put-apart (put a count 0) allowance _ μ (omega arith) f e ∙ get-put-apart a count 0 μ (omega arith) f c
 
-  open-other : (x : Image) (μ : Key) → Fits μ → same count μ ≡ false → same allowance μ ≡ false → get (openUp P S x) μ ≡ get (markRoots S (started x)) μ
+  pub open-other : (x : Image) (μ : Key) → Fits μ → same count μ ≡ false → same allowance μ ≡ false → get (openUp P S x) μ ≡ get (markRoots S (started x)) μ
   unfolding openUp
   open-other x μ f c e = allow-other (markRoots S (started x)) μ f c e
 
@@ -128,7 +128,7 @@ module _ (P S : ℕ) (shape : Shape P S) where
       a : Image
       a = markRoots S (started x)
 
-  open-allowance : (x : Image) → Linked P S x → get (openUp P S x) allowance ≡ P + unmarked (P * S) (markRoots S (started x))
+  pub open-allowance : (x : Image) → Linked P S x → get (openUp P S x) allowance ≡ P + unmarked (P * S) (markRoots S (started x))
   unfolding openUp allow
   open-allowance x w = get-put-same (P * S) _ allowance _ (sized-put _ _ _ _ (ready-roots x w .linked .size)) (omega arith)
 

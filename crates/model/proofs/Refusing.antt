@@ -55,7 +55,7 @@ unfolding judgeOps Mild
 ops-mild P S x e [] = tt
 ops-mild P S x e (o ∷ os) = then-mild _ _ (op-mild P S x e o) (ops-mild P S (perform S x o) (e + 1) os)
 
-all-clean : (P : ℕ) (x : Image) → notClean P x ≡ 0 → (p : ℕ) → p < P → get x (flag p) ≢ 0
+pub all-clean : (P : ℕ) (x : Image) → notClean P x ≡ 0 → (p : ℕ) → p < P → get x (flag p) ≢ 0
 unfolding notClean
 all-clean P x e p l = eqb-false _ _ (tally-zero P _ e p l)
 

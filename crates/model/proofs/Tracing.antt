@@ -1,16 +1,16 @@
 -- A trace: the rule for one trace, and that it keeps what holds throughout a phase.
 -- Assumes nothing.
 use Prim.Native.Nat.{ℕ, _+_, _*_, _<_}
-use mathlib.Core.Path.{_≡_, refl, sym, ap, _∙_, subst}
+use mathlib.Core.Path.{_≡_, refl, sym, _∙_, subst}
 use mathlib.Core.Bool.{Bool, true, false, not}
-use mathlib.Core.Logic.{_≢_, _⊎_, inl, inr}
+use mathlib.Core.Logic.{_≢_}
 use native.Mathlib.Omega.{arith}
 use native.Mathlib.Decide.{ℕ-discrete}
 use lib.Dec.{eqb}
 use borrow.Author.Tests.{eqb-true, eqb-false, eq-eqb, ne-eqb, not-true}
 use Rattle.loops.proofs.Tests.{both-true}
 use Rattle.kinds.specs.Names.{mostPartitions}
-use Rattle.model.specs.Image.{Image, Key, flag, state, field, get, put, placeOf, partOf, a-field}
+use Rattle.model.specs.Image.{Image, Key, flag, state, field, get, put, partOf, a-field}
 use Rattle.model.specs.Spread.{pass, spread, Reach, step}
 use Rattle.model.specs.Acts.{marked, mark, refers, target, own, foreign, inside, outside, traceOne}
 use Rattle.model.specs.Chains.{Names}
@@ -129,7 +129,7 @@ module _ (P S : ℕ) (shape : Shape P S) where
     within y j k w l m e = slot-of P S (shape .some-slot) _ p (eqb-true _ _ (refers-is (own S p) y (p * S + j) k e .1))
 
     -- a field of an object of p names an object of p
-    pub Own : Image → ℕ → ℕ → Type 0
+    unfoldable pub Own : Image → ℕ → ℕ → Type 0
     Own x i t = (k : ℕ) × (k < 4) × (partOf S i ≡ p) × (partOf S t ≡ p) × Names S x (field i k) t
 
     pub inside-least : (x : Image) → Linked P S x → (i : ℕ) → marked (inside S p x) i ≡ true → Reach (λ v. marked x v ≡ true) (Own x) i
@@ -171,7 +171,6 @@ module _ (P S : ℕ) (shape : Shape P S) where
     record Outside (x z : Image) : Type 0 where
       more : MoreMarks x z
       same : (i : ℕ) → partOf S i ≡ p → get z (state i) ≡ get x (state i)
-      only : (t : ℕ) → get z (state t) ≡ 2 → (get x (state t) ≡ 2) ⊎ Foreign x t
 
     outside-is : (x : Image) → Linked P S x → Outside x (outside S p x)
     unfolding outside
@@ -180,25 +179,11 @@ module _ (P S : ℕ) (shape : Shape P S) where
         (λ z i k l m q a e c u g.
         let t = target S z i k in
         let far : partOf S t ≢ p = eqb-false (partOf S t) p (not-true _ c) in
-        let f = more-field x z (g .more) i k m in
-        let n : Names S x (field i k) t = record { some = λ n. e (f ∙ n); target = ap (placeOf S) (sym f) } in
-        record {
-          more = more-mark x z t u (g .more);
-          same = λ j r. mark-read z t (state j) u tt (ne-eqb t j (λ d. far (rw d r))) refl ∙ g .same j r;
-          only = λ j r. pick z t j u (record { holder = i; k = k; small = m; near = q; two = sym (g .same i q) ∙ a; names = n; far = far }) (g .only j) r (ℕ-discrete t j);
-        })
-        x (record { more = more-none x w; same = λ j r. refl; only = λ t r. inl r })
-      where
-        pick : (z : Image) (t j : ℕ) → t < P * S → Foreign x t → (get z (state j) ≡ 2 → (get x (state j) ≡ 2) ⊎ Foreign x j) → get (mark S z t) (state j) ≡ 2 → Dec (t ≡ j)
-            → (get x (state j) ≡ 2) ⊎ Foreign x j
-        pick z t j u new old r (yes d) = inr (rw d at new)
-        pick z t j u new old r (no d) = old (sym (mark-read z t (state j) u tt (ne-eqb t j d) refl) ∙ r)
+        record { more = more-mark x z t u (g .more); same = λ j r. mark-read z t (state j) u tt (ne-eqb t j (λ d. far (rw d r))) refl ∙ g .same j r })
+        x (record { more = more-none x w; same = λ j r. refl })
 
     pub more-outside : (x : Image) → Linked P S x → MoreMarks x (outside S p x)
     more-outside x w = outside-is x w .more
-
-    pub outside-only : (x : Image) → Linked P S x → (t : ℕ) → get (outside S p x) (state t) ≡ 2 → (get x (state t) ≡ 2) ⊎ Foreign x t
-    outside-only x w = outside-is x w .only
 
     pub outside-all : (x : Image) → Linked P S x → (t : ℕ) → Foreign x t → get (outside S p x) (state t) ≡ 2
     unfolding outside

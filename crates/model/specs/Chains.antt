@@ -11,7 +11,7 @@ use Rattle.kinds.specs.declared.Name.{Name}
 use Rattle.kinds.specs.declared.Target.the-variants.{Object}
 use Rattle.kinds.specs.declared.Operation.{Operation}
 use Rattle.kinds.specs.declared.Operation.the-variants.{New, Set, Val, Root}
-use Rattle.model.specs.Image.{Image, Key, root, field, anchors, get, place, placeOf}
+use Rattle.model.specs.Image.{Image, Key, root, state, payload, field, anchors, get, place, placeOf}
 use Rattle.model.specs.Spread.{Reach}
 use Rattle.model.specs.Acts.{Act, commit, opening, closing, trace}
 
@@ -23,6 +23,12 @@ pub record Names (S : ℕ) (img : Image) (κ : Key) (j : ℕ) : Type 0 where
 -- a root leads to the object at a place
 abbrev pub Leads : ℕ → Image → ℕ → Type 0
 Leads S img = Reach (λ j. (r : ℕ) × (r < anchors) × Names S img (root r) j) (λ i j. (k : ℕ) × (k < 4) × Names S img (field i k) j)
+
+-- from x to y the object at place j stays in use, with its payload and its fields
+pub record Stays (x y : Image) (j : ℕ) : Type 0 where
+  pub used : get y (state j) ≡ 1
+  pub value : get y (payload j) ≡ get x (payload j)
+  pub fields : (k : ℕ) → k < 4 → get y (field j k) ≡ get x (field j k)
 
 -- a history in steps, the last first: each operation is one
 pub data Step : Type 0 where

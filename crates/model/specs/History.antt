@@ -10,10 +10,14 @@ use Rattle.model.specs.Image.{Image, Key, root, anchors, get, placeOf}
 use Rattle.model.specs.Acts.{Act, commit, opening, closing, trace, used, apply}
 use Rattle.model.specs.Judge.{judge}
 
--- y comes from x by acts, the last first, each accepted where it stands
-pub data Run (P S : ℕ) (x : Image) : List Act → Image → Type 0 where
-  still : Run P S x [] x
-  acted : {acts : List Act} {y : Image} (a : Act) → Run P S x acts y → judge P S y a ≡ Accepted → Run P S x (a ∷ acts) (apply P S y a)
+-- y comes from x by acts, the last first, each acceptable where it stands: after the acts before it, on the heap that they leave
+pub data RunBy (P S : ℕ) (Ok : List Act → Image → Act → Type 0) (x : Image) : List Act → Image → Type 0 where
+  still : RunBy P S Ok x [] x
+  acted : {acts : List Act} {y : Image} (a : Act) → RunBy P S Ok x acts y → Ok acts y a → RunBy P S Ok x (a ∷ acts) (apply P S y a)
+
+-- each accepted
+abbrev pub Run : ℕ → ℕ → Image → List Act → Image → Type 0
+Run P S = RunBy P S (λ acts y a. judge P S y a ≡ Accepted)
 
 -- the accepted traces of a history
 unfoldable pub traces : List Act → ℕ

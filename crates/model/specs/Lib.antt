@@ -6,3 +6,4 @@ pub mod Questions
 pub mod Sound
 pub mod History
 pub mod Chains
+pub mod Effects

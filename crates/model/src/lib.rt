@@ -1,3 +1,4 @@
-// The paper in definitions: the image by keys and places, soundness, the acts, the questions, the order of refusals, histories and
-// chains (specs/); and the theorems over them (proofs/): every accepted act keeps soundness, the closure behind a trace and the
-// question, and demand 3 as one record over histories (proofs/Demand.antt). The crate has no code: the crates above have the acts.
+// The paper in definitions: the image by keys and places, soundness, the acts, what each writes, the questions, the order of refusals,
+// histories and chains (specs/); and the theorems over them (proofs/): every accepted act keeps soundness and writes what the paper says and
+// nothing else (Effects), the closure behind a trace and the question, progress, and demand 3 as one record over histories
+// (proofs/Demand.antt). The crate has no code: the crates above have the acts.

@@ -15,7 +15,7 @@ use Rattle.model.specs.Image.{Image, partitions, slots, get, lengthOf, blank}
 use Rattle.model.specs.Acts.{opening, closing, trace}
 use Rattle.model.specs.Judge.{check, andThen, judgeFormat}
 use Rattle.model.specs.Sound.{isSound}
-use Rattle.writer.specs.Record.{recordOf, headingOf}
+use Rattle.writer.specs.Record.{recordOf, newest, headingOf}
 use Rattle.writer.specs.Write.{splice}
 use Rattle.catalogue.specs.declared.Answer.{Answer}
 use Rattle.catalogue.specs.declared.Answer.the-variants.{Done, Refused as NotDone}
@@ -105,7 +105,7 @@ ways-closing (did a l) = done a l
 ways-closing (left r e) = not-done r e
 
 pub format-ways : (img : Image) (P S : ℕ) (log : List ℕ) (at : ℕ)
-    → Ways (judgeFormat P S (lengthOf img)) (headingOf P S) (blank P S) img log at (formatting img P S log at)
+    → Ways (judgeFormat P S (lengthOf img)) (headingOf (newest P S)) (blank P S) img log at (formatting img P S log at)
 unfolding formatOf
 format-ways img P S log at = ways-answer (performed Done NotDone _ _ _ img log at)
 
@@ -154,7 +154,7 @@ pub refused-leaves : (img : Image) (c : Call) (log : List ℕ) (at : ℕ) → (c
 refused-leaves img c log at ne = refusing (call-ways img c log at) ne
 
 pub format-accepted : (img : Image) (P S : ℕ) (log : List ℕ) (at : ℕ) → (formatting img P S log at) .number ≡ 0
-    → Accepting (judgeFormat P S (lengthOf img)) (headingOf P S) (blank P S) log at (formatting img P S log at)
+    → Accepting (judgeFormat P S (lengthOf img)) (headingOf (newest P S)) (blank P S) log at (formatting img P S log at)
 format-accepted img P S log at z = accepting (beside-among 0 2 2 _ (omega arith) (format-among P S (lengthOf img))) (format-ways img P S log at) z
 
 pub refused-format-leaves : (img : Image) (P S : ℕ) (log : List ℕ) (at : ℕ) → (formatting img P S log at) .number ≢ 0 → Refusing img log (formatting img P S log at)

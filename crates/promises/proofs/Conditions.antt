@@ -1,6 +1,6 @@
 -- Each test of a judge fails exactly where the table's condition holds.
 -- Assumes nothing.
-use Prim.Native.Nat.{ℕ, zero, suc, _+_, _*_, _≤_, _<_}
+use Prim.Native.Nat.{ℕ, _*_, _≤_, _<_}
 use mathlib.Core.Path.{_≡_, refl, sym}
 use mathlib.Core.Bool.{Bool, true, false, not, cond, true≢false}
 use mathlib.Core.Logic.{_≢_, _⊎_, inl, inr, ⊎-elim}
@@ -8,9 +8,10 @@ use native.Mathlib.Nat.{eq-or-lt-of-le}
 use native.Mathlib.Omega.{arith}
 use lib.Dec.{eqb, ltb, leb}
 use borrow.Author.Tests.{eqb-true, eqb-false, eq-eqb, ltb-true, ltb-false, leb-true, leb-false, not-true, not-false}
-use Rattle.loops.specs.Loop.{both, tally, every, first}
+use Rattle.loops.specs.Loop.{both, every}
 use Rattle.loops.proofs.Tests.{clash, lt-or-ge}
-use Rattle.loops.proofs.Loops.{tally-zero, every-true, every-so, every-false}
+use Rattle.loops.proofs.Walks.{first-below}
+use Rattle.loops.proofs.Loops.{every-true, every-so, every-false}
 use Rattle.kinds.specs.Names.{mostPartitions, mostSlots, roots}
 use Rattle.kinds.specs.declared.Name.{Name}
 use Rattle.kinds.specs.declared.Target.{Target}
@@ -20,6 +21,8 @@ use Rattle.model.specs.Acts.{used, marked, isOpen, notClean}
 use Rattle.model.specs.Judge.{inLimits, inHeap, targetInHeap, targetUsed, rooted, leadsOn, led, lowest}
 use Rattle.model.specs.Sound.{isSound}
 use Rattle.model.proofs.Closing.{led-leads}
+use Rattle.model.proofs.Progress.{lowest-unclean}
+use Rattle.model.proofs.Refusing.{all-clean}
 use Rattle.model.proofs.Soundness.{sound-true, sound-back}
 use Rattle.promises.specs.Rows.{Unsound, WrongSize, no-partition, many-partitions, no-slot, many-slots, wrong-length, TooLarge, TargetTooLarge, InUse, NotInUse, TargetNotInUse, NotOpen, AlreadyOpen, NoRoot, Clean, Lowest, Live, a-root, a-field, Astray}
 use Rattle.promises.proofs.Listing.{Tests}
@@ -31,7 +34,7 @@ test-lt a b = record { fails = ltb-false a b; passes = λ e c. let l = ltb-true 
 pub test-le : (a b : ℕ) → Tests (leb a b) (b < a)
 test-le a b = record { fails = leb-false a b; passes = λ e c. let l = leb-true a b e in omega arith }
 
-pub test-eq : (a b : ℕ) → Tests (eqb a b) (a ≢ b)
+test-eq : (a b : ℕ) → Tests (eqb a b) (a ≢ b)
 test-eq a b = record { fails = eqb-false a b; passes = λ e c. c (eqb-true a b e) }
 
 pub test-ne : (a b : ℕ) → Tests (not (eqb a b)) (a ≡ b)
@@ -114,45 +117,14 @@ pub test-unclean : (img : Image) (p : ℕ) → Tests (eqb (get img (flag p)) 0) 
 test-unclean img p = test-eq (get img (flag p)) 0
 
 -- 14: where a partition is not clean there is a lowest one, and the judge finds it
-tally-found : (n : ℕ) (f : ℕ → Bool) → tally n f ≢ 0 → (i : ℕ) × (i < n) × (f i ≡ true)
-unfolding tally
-tally-found zero f ne = absurd (ne refl)
-tally-found (suc n) f ne = go (f n) refl (λ q. tally-found n f q)
-  where
-    go : (b : Bool) → f n ≡ b → (tally n f ≢ 0 → (i : ℕ) × (i < n) × (f i ≡ true)) → (i : ℕ) × (i < suc n) × (f i ≡ true)
-    go true e ih = (n, omega arith, e)
-    go false e ih = let r = ih (λ z. ne (rw (z, e))) in (r .0, omega arith, r .2)
-
-record FirstAt (n i : ℕ) (f : ℕ → Bool) (m : ℕ) : Type 0 where
-  pub within : m < i + n
-  pub found : f m ≡ true
-  pub none-below : (k : ℕ) → i ≤ k → k < m → f k ≡ false
-
-first-at : (n i : ℕ) (f : ℕ → Bool) (j : ℕ) → i ≤ j → j < i + n → f j ≡ true → FirstAt n i f (first n i f)
-unfolding first
-first-at zero i f j l m e = absurd (omega arith)
-first-at (suc n) i f j l m e = go (f i) refl (λ p q. first-at n (suc i) f j p q e)
-  where
-    go : (b : Bool) → f i ≡ b → (suc i ≤ j → j < suc i + n → FirstAt n (suc i) f (first n (suc i) f)) → FirstAt (suc n) i f (cond b i (first n (suc i) f))
-    go true q r = record { within = omega arith; found = q; none-below = λ k a b. absurd (omega arith) }
-    go false q r =
-        let later : suc i ≤ j = ⊎-elim (λ s. absurd (clash e (rw s at q))) (λ s. s) (eq-or-lt-of-le l) in
-        let h : FirstAt n (suc i) f (first n (suc i) f) = r later (omega arith) in
-        let w = h .within in
-        record { within = omega arith; found = h .found; none-below = λ k a b. ⊎-elim (λ s. rw (← s) q) (λ s. h .none-below k s b) (eq-or-lt-of-le a) }
-
 pub found-lowest : (img : Image) → notClean (get img partitions) img ≢ 0 → Lowest img (lowest (get img partitions) img)
-unfolding notClean lowest
+unfolding lowest
 found-lowest img ne =
-    let P : ℕ = get img partitions in
-    let r = tally-found P (λ p. eqb (get img (flag p)) 0) ne in
-    let h = first-at P 0 (λ p. eqb (get img (flag p)) 0) (r .0) (omega arith) (omega (arith, r .1)) (r .2) in
-    let w = h .within in
-    record { within = omega arith; not-clean = eqb-true _ _ (h .found); clean-below = λ q l. eqb-false _ _ (h .none-below q (omega arith) l) }
+    let u = lowest-unclean (get img partitions) img ne in
+    record { within = u .0; not-clean = u .1; clean-below = λ q l. eqb-false _ _ (first-below (λ p. eqb (get img (flag p)) 0) (get img partitions) 0 q (omega arith) l) }
 
 pub none-lowest : (img : Image) → notClean (get img partitions) img ≡ 0 → (p : ℕ) → Lowest img p → ⊥
-unfolding notClean
-none-lowest img z p l = eqb-false _ _ (tally-zero (get img partitions) (λ p. eqb (get img (flag p)) 0) z p (l .within)) (l .not-clean)
+none-lowest img z p l = all-clean (get img partitions) img z p (l .within) (l .not-clean)
 
 pub one-lowest : (img : Image) (p q : ℕ) → Lowest img p → Lowest img q → p ≡ q
 one-lowest img p q l m =

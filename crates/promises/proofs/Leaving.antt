@@ -8,11 +8,12 @@ use mathlib.Core.List.{List, []}
 use mathlib.Core.Logic.{_≢_, ⊎-elim}
 use native.Mathlib.Omega.{arith}
 use lib.ListN.{replicate}
-use Rattle.kinds.specs.Answers.{blankRecord}
+use Rattle.kinds.specs.Answers.{refuse, blankRecord}
 use Rattle.kinds.specs.declared.Name.{Name}
 use Rattle.kinds.specs.declared.Partition.{Partition}
 use Rattle.kinds.specs.declared.Operation.{Operation}
 use Rattle.kinds.specs.declared.Refusal.{Refusal}
+use Rattle.kinds.specs.declared.Verdict.{Verdict}
 use Rattle.kinds.specs.declared.Verdict.the-variants.{Accepted}
 use Rattle.model.specs.Image.{Image}
 use Rattle.model.specs.Judge.{check}
@@ -21,7 +22,7 @@ use Rattle.model.proofs.SoundnessActs.{zeros-unsound}
 use Rattle.journal.specs.Recover.{Stand, early, going, stopped, reader, feedAll, refusal, recovery, tailOk, close, answer, recoverOf}
 use Rattle.catalogue.specs.Answers.{Said, refusedWith, said, totals, saidClosing, saidReading, saidAsked}
 use Rattle.catalogue.specs.Call.{perform, judgeAct, judgeCommit, judgeObject, callOf, commitOf, openOf, traceOf, closeOf, readingOf, askedOf}
-use Rattle.promises.specs.Rows.{NoRoot}
+use Rattle.promises.specs.Rows.{Found, telled, NoRoot}
 use Rattle.promises.specs.Calls.{open-call, close-call, calling}
 use Rattle.promises.proofs.Calling.{Refusing, refused-leaves}
 use Rattle.promises.proofs.Refusals.{open-first, close-first}
@@ -70,24 +71,28 @@ pub zeros-refused : (n : ℕ) → Refuses-1 (replicate n 0)
 zeros-refused n = unsound-refused (replicate n 0) (zeros-unsound n)
 
 -- WITH NO ROOT IN USE no phase opens or closes
-numbered : {A : Type 0} (s : Said A) (z : A) (n e : ℕ) → n ≢ 0 → s ≡ refusedWith z (record { number = n; extra = e }) → s .number ≢ 0
-numbered s z n e ne q m = ne (sym (ap (λ (t : Said _). t .number) q) ∙ m)
+numbered : {A : Type 0} (s : Said A) (z v : A) (u : Verdict) (n e : ℕ) → n ≢ 0 → u ≡ refuse n e → s ≡ telled z v u → s .number ≢ 0
+numbered s z v u n e ne q t m = ne (sym (ap (λ (r : Said _). r .number) (t ∙ ap (telled z v) q)) ∙ m)
 
 module _ (img : Image) (log : List ℕ) (at : ℕ) (none : NoRoot img) where
+  open-refused : (calling img open-call log at) .number ≢ 0
+  unfolding Found
+  open-refused =
+      let f = open-first img log at in
+      ⊎-elim (λ x. numbered _ _ _ _ 1 0 (λ z. omega arith) (x .1) (f .2))
+      (λ x. ⊎-elim (λ y. numbered _ _ _ _ 11 0 (λ z. omega arith) (y .1) (f .2))
+      (λ y. ⊎-elim (λ w. numbered _ _ _ _ 12 0 (λ z. omega arith) (w .1) (f .2)) (λ w. absurd (w .0 none)) (y .1)) (x .1)) (f .1)
+
   pub rootless-open : ((calling img open-call log at) .number ≢ 0) × Refusing img log (calling img open-call log at)
-  rootless-open = let ne = refused in (ne, refused-leaves img open-call log at ne)
-    where
-      refused : (calling img open-call log at) .number ≢ 0
-      refused =
-          ⊎-elim (λ x. numbered _ 0 1 0 (λ z. omega arith) (x .1))
-          (λ x. ⊎-elim (λ y. numbered _ 0 11 0 (λ z. omega arith) (y .1))
-          (λ y. ⊎-elim (λ w. numbered _ 0 12 0 (λ z. omega arith) (w .1)) (λ w. absurd (w .0 none)) (y .1)) (x .1)) (open-first img log at)
+  rootless-open = (open-refused, refused-leaves img open-call log at open-refused)
+
+  close-refused : (calling img close-call log at) .number ≢ 0
+  unfolding Found
+  close-refused =
+      let f = close-first img log at in
+      ⊎-elim (λ x. numbered _ _ _ _ 1 0 (λ z. omega arith) (x .1) (f .2))
+      (λ x. ⊎-elim (λ y. numbered _ _ _ _ 10 0 (λ z. omega arith) (y .1) (f .2))
+      (λ y. ⊎-elim (λ w. numbered _ _ _ _ 12 0 (λ z. omega arith) (w .1) (f .2)) (λ w. absurd (w .0 none)) (y .1)) (x .1)) (f .1)
 
   pub rootless-close : ((calling img close-call log at) .number ≢ 0) × Refusing img log (calling img close-call log at)
-  rootless-close = let ne = refused in (ne, refused-leaves img close-call log at ne)
-    where
-      refused : (calling img close-call log at) .number ≢ 0
-      refused =
-          ⊎-elim (λ x. numbered _ _ 1 0 (λ z. omega arith) (x .1))
-          (λ x. ⊎-elim (λ y. numbered _ _ 10 0 (λ z. omega arith) (y .1))
-          (λ y. ⊎-elim (λ w. numbered _ _ 12 0 (λ z. omega arith) (w .1)) (λ w. absurd (w .0 none)) (y .1)) (x .1)) (close-first img log at)
+  rootless-close = (close-refused, refused-leaves img close-call log at close-refused)

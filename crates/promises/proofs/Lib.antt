@@ -3,9 +3,11 @@ pub mod Conditions
 pub mod Refusals
 pub mod Leaving
 pub mod Calling
+pub mod Headed
 pub mod Books
 pub mod Recoveries
 pub mod Reached
 pub mod Phases
 pub mod Table
 pub mod Once
+pub mod Effects

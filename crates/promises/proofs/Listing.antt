@@ -4,12 +4,11 @@ use Prim.Native.Nat.{ℕ, _+_, _≤_}
 use mathlib.Core.Path.{_≡_, refl, sym, ap, _∙_}
 use mathlib.Core.Bool.{Bool, true, false, cond}
 use mathlib.Core.List.{List, [], _∷_, _++_}
-use mathlib.Core.Logic.{_⊎_, inl, inr, ⊎-elim}
+use mathlib.Core.Logic.{inl, inr, ⊎-elim}
 use lib.Dec.{leb}
 use lib.ListN.{length}
 use borrow.Author.Tests.{leb-true, le-leb}
 use Rattle.kinds.specs.Answers.{refuse}
-use Rattle.kinds.proofs.Answers.{unlike}
 use Rattle.kinds.specs.declared.Refusal.{Refusal}
 use Rattle.kinds.specs.declared.Verdict.{Verdict}
 use Rattle.kinds.specs.declared.Verdict.the-variants.{Accepted, Refused}
@@ -18,31 +17,16 @@ use Rattle.model.specs.Judge.{check, andThen}
 use Rattle.writer.specs.Write.{splice}
 use Rattle.catalogue.specs.Answers.{Said, accepted, refusedWith}
 use Rattle.catalogue.specs.Call.{Outcome, noRoom, outcome, perform}
-use Rattle.promises.specs.Rows.{Row, given, telling, First}
+use Rattle.promises.specs.Rows.{Row, given, telling, Found, telled, First}
 
 -- a test that fails exactly where a condition holds
 pub record Tests (b : Bool) (C : Type 0) : Type 0 where
   pub fails : b ≡ false → C
   pub passes : b ≡ true → C → ⊥
 
--- what a list says of a verdict
-unfoldable pub Found : List Row → Verdict → Type 0
-Found [] u = u ≡ Accepted
-Found (given n e C ∷ rows) u = (C × (u ≡ refuse n e)) ⊎ ((C → ⊥) × Found rows u)
-Found (telling n E ∷ rows) u = ((e : ℕ) × E e × (u ≡ refuse n e)) ⊎ (((e : ℕ) → E e → ⊥) × Found rows u)
-
 pub found-none : Found [] Accepted
 unfolding Found
 found-none = refl
-
--- a condition that holds, and one that does not
-pub found-here : (n e : ℕ) (C : Type 0) (rows : List Row) → C → Found (given n e C ∷ rows) (refuse n e)
-unfolding Found
-found-here n e C rows c = inl (c, refl)
-
-pub found-later : (n e : ℕ) (C : Type 0) (rows : List Row) (u : Verdict) → (C → ⊥) → Found rows u → Found (given n e C ∷ rows) u
-unfolding Found
-found-later n e C rows u c f = inr (c, f)
 
 -- one check
 pub found-check : (b : Bool) (n e : ℕ) (u : Verdict) (C : Type 0) (rows : List Row) → Tests b C → Found rows u → Found (given n e C ∷ rows) (check b n e u)
@@ -65,18 +49,6 @@ found-then (given n e C ∷ rows) more u w f g = ⊎-elim (λ x. inl (x .0, rw (
 found-then (telling n E ∷ rows) more u w f g =
     ⊎-elim (λ x. inl (x .0, x .1, rw (x .2))) (λ x. inr (x .0, found-then rows more u w (x .1) g)) f
 
--- a refusal by a list stays, whatever comes after it
-pub found-stays : (rows more : List Row) (r : Refusal) → Found rows (Refused r) → Found (rows ++ more) (Refused r)
-unfolding Found
-found-stays [] more r f = unlike f
-found-stays (given n e C ∷ rows) more r f = ⊎-elim (λ x. inl x) (λ x. inr (x .0, found-stays rows more r (x .1))) f
-found-stays (telling n E ∷ rows) more r f = ⊎-elim (λ x. inl x) (λ x. inr (x .0, found-stays rows more r (x .1))) f
-
--- what an answer says, by its verdict
-abbrev pub telled : {A : Type 0} → A → A → Verdict → Said A
-telled z v Accepted = accepted v
-telled z v (Refused r) = refusedWith z r
-
 -- conditions on an extra answer that leave it no choice
 abbrev pub Settled : List Row → Type 0
 Settled [] = Unit {0}
@@ -88,23 +60,18 @@ settled-then [] more d m = m
 settled-then (given n e C ∷ rows) more d m = settled-then rows more d m
 settled-then (telling n E ∷ rows) more d m = (d .0, settled-then rows more (d .1) m)
 
-module _ {A : Type 0} (z v : A) where
-  pub first-found : (rows : List Row) (u : Verdict) → Found rows u → First z v rows (telled z v u)
-  unfolding Found
-  first-found [] u f = ap (telled z v) f
-  first-found (given n e C ∷ rows) u f = ⊎-elim (λ x. inl (x .0, ap (telled z v) (x .1))) (λ x. inr (x .0, first-found rows u (x .1))) f
-  first-found (telling n E ∷ rows) u f = ⊎-elim (λ x. inl (x .0, x .1, ap (telled z v) (x .2))) (λ x. inr (x .0, first-found rows u (x .1))) f
+-- A LIST SAYS ONE THING ONLY
+pub found-one : (rows : List Row) → Settled rows → (u w : Verdict) → Found rows u → Found rows w → u ≡ w
+unfolding Found
+found-one [] d u w f g = f ∙ sym g
+found-one (given n e C ∷ rows) d u w f g =
+    ⊎-elim (λ x. ⊎-elim (λ y. x .1 ∙ sym (y .1)) (λ y. absurd (y .0 (x .0))) g) (λ x. ⊎-elim (λ y. absurd (x .0 (y .0))) (λ y. found-one rows d u w (x .1) (y .1)) g) f
+found-one (telling n E ∷ rows) d u w f g =
+    ⊎-elim (λ x. ⊎-elim (λ y. x .2 ∙ ap (refuse n) (d .0 (x .0) (y .0) (x .1) (y .1)) ∙ sym (y .2)) (λ y. absurd (y .0 (x .0) (x .1))) g)
+    (λ x. ⊎-elim (λ y. absurd (x .0 (y .0) (y .1))) (λ y. found-one rows (d .1) u w (x .1) (y .1)) g) f
 
-  -- A LIST SAYS ONE THING ONLY
-  pub exactly : (rows : List Row) → Settled rows → (s t : Said A) → First z v rows s → First z v rows t → s ≡ t
-  exactly [] d s t f g = f ∙ sym g
-  exactly (given n e C ∷ rows) d s t f g =
-      ⊎-elim (λ x. ⊎-elim (λ y. x .1 ∙ sym (y .1)) (λ y. absurd (y .0 (x .0))) g)
-      (λ x. ⊎-elim (λ y. absurd (x .0 (y .0))) (λ y. exactly rows d s t (x .1) (y .1)) g) f
-  exactly (telling n E ∷ rows) d s t f g =
-      ⊎-elim
-      (λ x. ⊎-elim (λ y. x .2 ∙ ap (λ (e : ℕ). refusedWith z (record { number = n; extra = e })) (d .0 (x .0) (y .0) (x .1) (y .1)) ∙ sym (y .2)) (λ y. absurd (y .0 (x .0) (x .1))) g)
-      (λ x. ⊎-elim (λ y. absurd (x .0 (y .0) (y .1))) (λ y. exactly rows (d .1) s t (x .1) (y .1)) g) f
+pub exactly : {A : Type 0} (z v : A) (rows : List Row) → Settled rows → (s t : Said A) → First z v rows s → First z v rows t → s ≡ t
+exactly z v rows d s t f g = f .2 ∙ ap (telled z v) (found-one rows d (f .0) (g .0) (f .1) (g .1)) ∙ sym (g .2)
 
 -- the verdict of a logged call: its own list, then 17
 abbrev pub fully : Verdict → List ℕ → List ℕ → ℕ → Verdict

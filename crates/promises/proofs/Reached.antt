@@ -10,21 +10,23 @@ use mathlib.Core.Logic.{inl, inr, ⊎-elim}
 use native.Mathlib.Omega.{arith}
 use Rattle.loops.proofs.Tests.{clash}
 use Rattle.kinds.specs.declared.Verdict.the-variants.{Accepted}
-use Rattle.model.specs.Image.{Image, partitions, slots, get, lengthOf}
+use Rattle.lines.specs.Print.{Bytes}
+use Rattle.model.specs.Image.{Image, partitions, slots, get, lengthOf, blank}
 use Rattle.model.specs.Acts.{Act, apply}
 use Rattle.model.specs.History.{Run, still, acted}
 use Rattle.model.specs.Judge.{judge}
 use Rattle.model.specs.Sound.{isSound}
 use Rattle.model.proofs.Soundness.{sound-true}
 use Rattle.model.proofs.SoundnessActs.{run-kept, reached-passes, zeros-unsound}
-use Rattle.writer.specs.Record.{headingOf}
-use Rattle.journal.specs.Log.{logOf, replay}
+use Rattle.writer.specs.Record.{Rule, newest}
+use Rattle.journal.specs.Log.{replay}
+use Rattle.journal.specs.Recover.{Recovered, recoverOf}
 use Rattle.journal.proofs.Any.{any-bytes}
-use Rattle.journal.proofs.Demand.{replayed}
+use Rattle.journal.proofs.Demand.{replayed, history-of, history-new, kept-is}
 use Rattle.promises.specs.Calls.{Call, actOf, Worded, formatting, calling}
 use Rattle.promises.specs.World.{Origin, as-lent, emptied, logged, World, lent, formatted, unformatted, called, refused, recovered, unrecovered, Lent, Emptied, Replayed, Stands}
-use Rattle.promises.proofs.Books.{Headed, reached-headed, format-limits, call-leaves}
 use Rattle.promises.proofs.Calling.{call-judged, call-accepted, refused-leaves, format-accepted, refused-format-leaves}
+use Rattle.promises.proofs.Headed.{Headed, reached-headed, format-limits, call-leaves}
 use Rattle.promises.proofs.Leaving.{refused-recovery}
 
 -- an accepted call's image is sound
@@ -34,6 +36,13 @@ call-sound x c log at z = call-judged x c (call-accepted x c log at z .judged) .
 still-same : {P S : ℕ} {w x : Image} {acts : List Act} → Run P S w acts x → acts ≡ [] → x ≡ w
 still-same still e = refl
 still-same (acted a r j) e = absurd (let z : _≡_ {A = ℕ} 0 1 = cc in omega arith)
+
+-- a replay is a run, with P and S in its words 0 and 1
+pub replayed-run : {h : Rule} {acts : List Act} {x : Image} → Replayed h acts x → Run (h .P) (h .S) (blank (h .P) (h .S)) acts x
+replayed-run {h} {acts} r = subst (Run (h .P) (h .S) (blank (h .P) (h .S)) acts) (sym (r .image-is)) (r .history .run)
+
+pub replayed-headed : {h : Rule} {acts : List Act} {x : Image} → Replayed h acts x → Headed (h .P) (h .S) x
+replayed-headed {h} r = reached-headed (h .P) (h .S) (r .history .range) (replayed-run r)
 
 -- called
 module _ (w : Image) (acts : List Act) (x : Image) (c : Call) (log : List ℕ) (at : ℕ) (z : (calling x c log at) .number ≡ 0) where
@@ -52,41 +61,23 @@ module _ (w : Image) (acts : List Act) (x : Image) (c : Call) (log : List ℕ) (
   emptied-called : Emptied acts x → ⊥
   emptied-called e = clash (subst (λ (y : Image). isSound y ≡ true) (e .zeros) (call-sound x c log at z)) (zeros-unsound (lengthOf x))
 
-  replayed-called : (bytes : List ℕ) → Worded c → Replayed bytes acts x → Replayed bytes (actOf c ∷ acts) ((calling x c log at) .image)
-  replayed-called bytes wd r =
-      let j = call-leaves (r .P) (r .S) x c log at (reached-headed (r .P) (r .S) (r .range) (r .run)) z in
-      let s = acted (actOf c) (r .run) (j .0) in
-      record {
-        P = r .P;
-        S = r .S;
-        earlier = r .earlier;
-        range = r .range;
-        bytes-are = r .bytes-are;
-        words = (wd, r .words);
-        run = rw (j .1) s;
-        replay-is = j .1 ∙ replayed s;
-      }
+  replayed-called : {h : Rule} → Worded c → Replayed h acts x → Replayed h (actOf c ∷ acts) ((calling x c log at) .image)
+  replayed-called {h} wd r =
+      let j = call-leaves (h .P) (h .S) x c log at (replayed-headed r) z in
+      let s = acted (actOf c) (replayed-run r) (j .0) in
+      record { history = history-of h (r .history .edition) (r .history .range) (wd, r .history .words) s; image-is = j .1 ∙ replayed h s }
 
 stands-called : (w : Image) (o : Origin) (acts : List Act) (x : Image) (c : Call) (log : List ℕ) (at : ℕ) → Worded c → (calling x c log at) .number ≡ 0 → Stands w o acts x
     → Stands w o (actOf c ∷ acts) ((calling x c log at) .image)
 stands-called w as-lent acts x c log at wd z s = lent-called w acts x c log at z s
 stands-called w emptied acts x c log at wd z s = absurd (emptied-called w acts x c log at z s)
-stands-called w (logged bytes) acts x c log at wd z s = replayed-called w acts x c log at z bytes wd s
+stands-called w (logged h) acts x c log at wd z s = replayed-called w acts x c log at z wd s
 
-stands-formatted : (x : Image) (P S : ℕ) (log : List ℕ) (at : ℕ) → (formatting x P S log at) .number ≡ 0 → Replayed (headingOf P S) [] ((formatting x P S log at) .image)
-unfolding logOf replay
-stands-formatted x P S log at z =
+replayed-formatted : (x : Image) (P S : ℕ) (log : List ℕ) (at : ℕ) → (formatting x P S log at) .number ≡ 0 → Replayed (newest P S) [] ((formatting x P S log at) .image)
+unfolding replay
+replayed-formatted x P S log at z =
     let m = format-accepted x P S log at z in
-    record {
-      P = P;
-      S = S;
-      earlier = [];
-      range = format-limits P S (lengthOf x) (m .judged);
-      bytes-are = refl;
-      words = tt;
-      run = rw (m .image-is) still;
-      replay-is = m .image-is;
-    }
+    record { history = history-new P S (format-limits P S (lengthOf x) (m .judged)); image-is = m .image-is }
 
 zeros-all : (n : ℕ) (x : Image) → x ≡ replicate n 0 → x ≡ replicate (lengthOf x) 0
 unfolding lengthOf
@@ -95,25 +86,19 @@ zeros-all n x e = e ∙ ap (λ (m : ℕ). replicate m 0) (sym (ap length e ∙ l
 -- REACHED
 pub reached : {w : Image} {o : Origin} {acts : List Act} {x : Image} → World w o acts x → Stands w o acts x
 reached lent = record { run = still; start = inl refl }
-reached (formatted {x = x} l P S log at z) = stands-formatted x P S log at z
+reached (formatted {x = x} l P S log at z) = replayed-formatted x P S log at z
 reached {w} {o} {acts} (unformatted {x = x} l P S log at ne) =
     subst (Stands w o acts) (sym (refused-format-leaves x P S log at ne .image-is)) (reached l)
 reached {w} {o} (called {acts = acts} {x = x} l c wd log at z) = stands-called w o acts x c log at wd z (reached l)
 reached {w} {o} {acts} (refused {x = x} l c log at ne) = subst (Stands w o acts) (sym (refused-leaves x c log at ne .image-is)) (reached l)
-reached (recovered {x = x} l log b e) =
-    let k = any-bytes log (lengthOf x) b e in
-    record {
-      P = k .P;
-      S = k .S;
-      earlier = k .acts;
-      range = k .range;
-      bytes-are = k .bytes;
-      words = k .words;
-      run = k .run;
-      replay-is = replayed (k .run);
-    }
+reached (recovered l log h kept k) = record { history = k .before .history; image-is = ap (λ (r : Recovered). r .image) (kept-is k) }
 reached (unrecovered {x = x} l log ne) = record { zeros = zeros-all (lengthOf x) _ (refused-recovery log (lengthOf x) ne .0); none-since = refl }
 
+-- every accepted recovery of any bytes is a case of `recovered`
+pub recovers : {w : Image} {o : Origin} {acts : List Act} {x : Image} → World w o acts x → (log : List ℕ) → Bytes log → (recoverOf log (lengthOf x)) .verdict ≡ Accepted
+    → (h : Rule) × (kept : List Act) × World w (logged h) kept ((recoverOf log (lengthOf x)) .image)
+recovers {x = x} world log b e = let a = any-bytes log (lengthOf x) b e in (a .rule, a .acts, recovered world log (a .rule) (a .acts) (a .kept))
+
 -- and a heap that calls reached from a formatting or a recovery is sound: no call on it is refused with 1
-pub reached-sound : {w : Image} {bytes : List ℕ} {acts : List Act} {x : Image} → World w (logged bytes) acts x → isSound x ≡ true
-reached-sound world = let r = reached world in reached-passes (r .P) (r .S) (r .range) (r .run)
+pub reached-sound : {w : Image} {h : Rule} {acts : List Act} {x : Image} → World w (logged h) acts x → isSound x ≡ true
+reached-sound {h = h} world = let r = reached world in reached-passes (h .P) (h .S) (r .history .range) (replayed-run r)

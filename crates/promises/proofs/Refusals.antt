@@ -4,7 +4,7 @@
 use Prim.Native.Nat.{ℕ, _+_, _*_, _≤_}
 use mathlib.Core.Path.{_≡_, refl, sym, subst}
 use mathlib.Core.Bool.{Bool, true, false, true≢false}
-use mathlib.Core.List.{List, [], _∷_}
+use mathlib.Core.List.{List, [], _∷_, _++_}
 use mathlib.Core.Logic.{inl, inr, ⊎-elim}
 use native.Mathlib.Omega.{arith}
 use lib.Dec.{ltb, leb}
@@ -19,21 +19,23 @@ use Rattle.kinds.specs.declared.Partition.{Partition}
 use Rattle.kinds.specs.declared.Operation.{Operation}
 use Rattle.kinds.specs.declared.Operation.the-variants.{New, Set, Val, Root}
 use Rattle.kinds.specs.declared.Record.{Record}
+use Rattle.kinds.specs.declared.Refusal.{Refusal}
 use Rattle.kinds.specs.declared.Verdict.{Verdict}
 use Rattle.kinds.specs.declared.Verdict.the-variants.{Accepted, Refused}
 use Rattle.model.specs.Image.{Image, partitions, slots, count, allowance, get, lengthOf, place}
-use Rattle.model.specs.Acts.{commit, opening, closing, trace, perform, unmarked}
+use Rattle.model.specs.Acts.{Act, commit, opening, closing, trace, perform, unmarked}
 use Rattle.model.specs.Judge.{check, judgeFormat, judgeOp, judgeOps, lowest, judge, judgeName}
 use Rattle.model.specs.Questions.{readOf, ask}
 use Rattle.model.specs.Sound.{isSound}
-use Rattle.writer.specs.Record.{recordOf, headingOf}
+use Rattle.writer.specs.Record.{recordOf, newest, headingOf}
+use Rattle.journal.proofs.Placing.{Counted, judge-commit}
 use Rattle.catalogue.specs.declared.Answer.the-variants.{Done, Refused as NotDone}
 use Rattle.catalogue.specs.declared.Closing.the-variants.{Refused as NotClosed}
-use Rattle.catalogue.specs.Answers.{Said, said, Totals, totals, saidClosing, saidReading, saidAsked}
-use Rattle.catalogue.specs.Call.{judgeAct, judgeCommit, judgeObject, formatOf, callOf, commitOf, openOf, traceOf, closed, closeOf, reading, readingOf, asked, askedOf}
-use Rattle.promises.specs.Rows.{given, telling, First, Unsound, WrongCount, NoRoom, Lowest, formatRows, operationRows, operationsRows, commitRows, openRows, traceRows, closeRows, objectRows}
+use Rattle.catalogue.specs.Answers.{Said, accepted, refusedWith, said, Totals, totals, saidClosing, saidReading, saidAsked}
+use Rattle.catalogue.specs.Call.{perform as perform-call, judgeAct, judgeCommit, judgeObject, formatOf, callOf, commitOf, openOf, traceOf, closed, closeOf, reading, readingOf, asked, askedOf}
+use Rattle.promises.specs.Rows.{Row, given, Found, telled, First, Unsound, WrongSize, WrongCount, NoRoom, Lowest, formatRows, operationRows, operationsRows, actRows, callRows, commitRows, objectRows}
 use Rattle.promises.proofs.Conditions.{test-lt, test-le, test-ne, test-both, test-as, test-sound, test-size, test-name, test-target, test-free, test-used, test-target-used, test-open, test-shut, test-rooted, test-unclean, found-lowest, none-lowest, one-lowest, test-led}
-use Rattle.promises.proofs.Listing.{Tests, Settled, settled-then, Found, found-none, found-check, found-tell, found-then, telled, first-found, exactly, said-perform}
+use Rattle.promises.proofs.Listing.{Tests, Settled, settled-then, found-none, found-check, found-tell, found-then, exactly, fully, said-perform}
 
 -- 17, judged last
 found-room : (bytes log : List ℕ) (at : ℕ) → Found (given 17 0 (NoRoom bytes at log) ∷ []) (check (leb (at + length bytes) (length log)) 17 0 Accepted)
@@ -50,7 +52,7 @@ found-operation P S img e (Val n v) = found-check _ 7 e _ _ _ (test-name P S n) 
 found-operation P S img e (Root r t) =
     found-check _ 7 e _ _ _ (test-both _ _ _ _ (test-lt r roots) (test-target P S t)) (found-check _ 9 e _ _ _ (test-target-used S img t) found-none)
 
-pub found-operations : (P S : ℕ) (img : Image) (e : ℕ) (os : List Operation) → Found (operationsRows P S img e os) (judgeOps P S img e os)
+found-operations : (P S : ℕ) (img : Image) (e : ℕ) (os : List Operation) → Found (operationsRows P S img e os) (judgeOps P S img e os)
 unfolding judgeOps
 found-operations P S img e [] = found-none
 found-operations P S img e (o ∷ os) =
@@ -63,14 +65,46 @@ settled-operation P S img e (Set n k t) = tt
 settled-operation P S img e (Val n v) = tt
 settled-operation P S img e (Root r t) = tt
 
-pub settled-operations : (P S : ℕ) (img : Image) (e : ℕ) (os : List Operation) → Settled (operationsRows P S img e os)
+settled-operations : (P S : ℕ) (img : Image) (e : ℕ) (os : List Operation) → Settled (operationsRows P S img e os)
 settled-operations P S img e [] = tt
 settled-operations P S img e (o ∷ os) =
     settled-then (operationRows P S img e o) (operationsRows P S (perform S img o) (e + 1) os) (settled-operation P S img e o) (settled-operations P S (perform S img o) (e + 1) os)
 
-settled-commit : (img : Image) (ops : List Operation) (n : ℕ) (log : List ℕ) (at : ℕ) → Settled (commitRows img ops n log at)
-settled-commit img ops n log at =
-    settled-then (operationsRows (get img partitions) (get img slots) img 1 (take n ops)) _ (settled-operations (get img partitions) (get img slots) img 1 (take n ops)) tt
+-- an act's own list
+pub found-act : (img : Image) (a : Act) → Counted a → Found (actRows img a) (judge (get img partitions) (get img slots) img a)
+unfolding judge
+found-act img (commit os) c =
+    subst (Found (actRows img (commit os))) (sym (judge-commit (get img partitions) (get img slots) img os (c .0) (c .1))) (found-operations (get img partitions) (get img slots) img 1 os)
+found-act img opening c = found-check _ 11 0 _ _ _ (test-shut img) (found-check _ 12 0 _ _ _ (test-rooted img) found-none)
+found-act img (trace p) c =
+    found-check _ 10 0 _ _ _ (test-open img)
+    (found-check _ 7 0 _ _ _ (test-lt p (get img partitions))
+    (found-check _ 13 0 _ _ _ (test-unclean img p) (found-check _ 15 0 _ _ _ (test-ne (get img count) (get img allowance)) found-none)))
+found-act img closing c =
+    found-check _ 10 0 _ _ _ (test-open img)
+    (found-check _ 12 0 _ _ _ (test-rooted img)
+    (found-tell _ 14 (lowest (get img partitions) img) _ (Lowest img) _ (λ e. found-lowest img (eqb-false _ _ e)) (λ e. none-lowest img (eqb-true _ _ e))
+    (found-check _ 16 0 _ _ _ (test-led img) found-none)))
+
+pub settled-act : (img : Image) (a : Act) → Settled (actRows img a)
+settled-act img (commit os) = settled-operations (get img partitions) (get img slots) img 1 os
+settled-act img opening = tt
+settled-act img (trace p) = tt
+settled-act img closing = (one-lowest img, tt)
+
+-- a logged call: its own list, then 17
+logged-first : {A B : Type 0} (say : B → Said A) (z v : A) (done : ℕ → B) (refused : Refusal → B) (u : Verdict) (bytes : List ℕ) (next img : Image) (log : List ℕ) (at : ℕ) (rows : List Row)
+    → say (done (length bytes)) ≡ accepted v → ((r : Refusal) → say (refused r) ≡ refusedWith z r) → Found rows u
+    → First z v (rows ++ (given 17 0 (NoRoom bytes at log) ∷ [])) (say ((perform-call done refused u bytes next img log at) .answer))
+logged-first say z v done refused u bytes next img log at rows d n f =
+    (fully u bytes log at, found-then rows _ u _ f (found-room bytes log at), said-perform say z v done refused u bytes next img log at d n)
+
+found-call : (img : Image) (a : Act) → Counted a → Found (given 1 0 (Unsound img) ∷ actRows img a) (judgeAct img a)
+unfolding judgeAct
+found-call img a c = found-check _ 1 0 _ _ _ (test-sound img) (found-act img a c)
+
+settled-call : (img : Image) (a : Act) (log : List ℕ) (at : ℕ) → Settled (callRows img a log at)
+settled-call img a log at = settled-then (actRows img a) _ (settled-act img a) tt
 
 -- 6: of 32 operations the first n
 check-both : (a b : Bool) (n e : ℕ) (u : Verdict) → check (both a b) n e u ≡ check a n e (check b n e u)
@@ -91,94 +125,64 @@ test-count ops n full = go (leb n mostOperations) refl
 
 -- FORMAT
 pub format-first : (img : Image) (P S : ℕ) (log : List ℕ) (at : ℕ)
-    → First 0 (length (headingOf P S)) (formatRows img P S log at) (said ((formatOf img P S log at) .answer))
+    → First 0 (length (headingOf (newest P S))) (formatRows img P S log at) (said ((formatOf img P S log at) .answer))
 unfolding formatOf judgeFormat
 format-first img P S log at =
-    rw (said-perform said 0 (length (headingOf P S)) Done NotDone (judgeFormat P S (lengthOf img)) (headingOf P S) _ img log at refl (λ r. refl))
-    (first-found 0 (length (headingOf P S)) (formatRows img P S log at) _
-    (found-then (given 2 0 _ ∷ []) (given 17 0 _ ∷ []) _ _ (found-check _ 2 0 _ _ _ (test-size P S (lengthOf img)) found-none) (found-room (headingOf P S) log at)))
+    logged-first said 0 _ Done NotDone _ (headingOf (newest P S)) _ img log at (given 2 0 (WrongSize P S (lengthOf img)) ∷ []) refl (λ r. refl) (found-check _ 2 0 _ _ _ (test-size P S (lengthOf img)) found-none)
 
-pub format-exactly : (img : Image) (P S : ℕ) (log : List ℕ) (at : ℕ) (s : Said ℕ) → First 0 (length (headingOf P S)) (formatRows img P S log at) s
+pub format-exactly : (img : Image) (P S : ℕ) (log : List ℕ) (at : ℕ) (s : Said ℕ) → First 0 (length (headingOf (newest P S))) (formatRows img P S log at) s
     → s ≡ said ((formatOf img P S log at) .answer)
-format-exactly img P S log at s f = exactly 0 (length (headingOf P S)) (formatRows img P S log at) tt s _ f (format-first img P S log at)
+format-exactly img P S log at s f = exactly 0 (length (headingOf (newest P S))) (formatRows img P S log at) tt s _ f (format-first img P S log at)
 
 -- COMMIT of the first n of 32 operations
 found-commit : (img : Image) (ops : List Operation) (n : ℕ) → length ops ≡ mostOperations
-    → Found (given 1 0 (Unsound img) ∷ given 6 0 (WrongCount n) ∷ operationsRows (get img partitions) (get img slots) img 1 (take n ops)) (judgeCommit img ops n)
+    → Found (given 1 0 (Unsound img) ∷ given 6 0 (WrongCount n) ∷ actRows img (commit (take n ops))) (judgeCommit img ops n)
 unfolding judgeCommit judge
 found-commit img ops n full =
-    let P : ℕ = get img partitions in
-    let S : ℕ = get img slots in
     found-check (isSound img) 1 0 _ _ _ (test-sound img)
-    (subst (Found (given 6 0 (WrongCount n) ∷ operationsRows P S img 1 (take n ops))) (check-both _ _ 6 0 _)
-    (found-check _ 6 0 _ _ _ (test-count ops n full) (found-operations P S img 1 (take n ops))))
+    (subst (Found (given 6 0 (WrongCount n) ∷ actRows img (commit (take n ops)))) (check-both _ _ 6 0 _)
+    (found-check _ 6 0 _ _ _ (test-count ops n full) (found-operations (get img partitions) (get img slots) img 1 (take n ops))))
 
 pub commit-first : (img : Image) (ops : List Operation) (n : ℕ) (log : List ℕ) (at : ℕ) → length ops ≡ mostOperations
     → First 0 (length (recordOf (commit (take n ops)))) (commitRows img ops n log at) (said ((commitOf img ops n log at) .answer))
 unfolding commitOf
-commit-first img ops n log at full =
-    let bytes : List ℕ = recordOf (commit (take n ops)) in
-    rw (said-perform said 0 (length bytes) Done NotDone (judgeCommit img ops n) bytes _ img log at refl (λ r. refl))
-    (first-found 0 (length bytes) (commitRows img ops n log at) _
-    (found-then (given 1 0 _ ∷ given 6 0 _ ∷ operationsRows (get img partitions) (get img slots) img 1 (take n ops)) (given 17 0 _ ∷ []) _ _
-    (found-commit img ops n full) (found-room bytes log at)))
+commit-first img ops n log at full = logged-first said 0 _ Done NotDone _ (recordOf (commit (take n ops))) _ img log at _ refl (λ r. refl) (found-commit img ops n full)
 
 pub commit-exactly : (img : Image) (ops : List Operation) (n : ℕ) (log : List ℕ) (at : ℕ) → length ops ≡ mostOperations
     → (s : Said ℕ) → First 0 (length (recordOf (commit (take n ops)))) (commitRows img ops n log at) s → s ≡ said ((commitOf img ops n log at) .answer)
 commit-exactly img ops n log at full s f =
-    exactly 0 (length (recordOf (commit (take n ops)))) (commitRows img ops n log at) (settled-commit img ops n log at) s _ f (commit-first img ops n log at full)
+    exactly 0 (length (recordOf (commit (take n ops)))) (commitRows img ops n log at) (settled-call img (commit (take n ops)) log at) s _ f (commit-first img ops n log at full)
 
 -- OPEN
-pub open-first : (img : Image) (log : List ℕ) (at : ℕ) → First 0 (length (recordOf opening)) (openRows img log at) (said ((openOf img log at) .answer))
-unfolding callOf judgeAct judge
-open-first img log at =
-    rw (said-perform said 0 (length (recordOf opening)) Done NotDone (judgeAct img opening) (recordOf opening) _ img log at refl (λ r. refl))
-    (first-found 0 (length (recordOf opening)) (openRows img log at) _
-    (found-then (given 1 0 _ ∷ given 11 0 _ ∷ given 12 0 _ ∷ []) (given 17 0 _ ∷ []) _ _
-    (found-check _ 1 0 _ _ _ (test-sound img) (found-check _ 11 0 _ _ _ (test-shut img) (found-check _ 12 0 _ _ _ (test-rooted img) found-none)))
-    (found-room (recordOf opening) log at)))
+pub open-first : (img : Image) (log : List ℕ) (at : ℕ) → First 0 (length (recordOf opening)) (callRows img opening log at) (said ((openOf img log at) .answer))
+unfolding callOf
+open-first img log at = logged-first said 0 _ Done NotDone _ (recordOf opening) _ img log at _ refl (λ r. refl) (found-call img opening tt)
 
-pub open-exactly : (img : Image) (log : List ℕ) (at : ℕ) (s : Said ℕ) → First 0 (length (recordOf opening)) (openRows img log at) s → s ≡ said ((openOf img log at) .answer)
-open-exactly img log at s f = exactly 0 (length (recordOf opening)) (openRows img log at) tt s _ f (open-first img log at)
+pub open-exactly : (img : Image) (log : List ℕ) (at : ℕ) (s : Said ℕ) → First 0 (length (recordOf opening)) (callRows img opening log at) s → s ≡ said ((openOf img log at) .answer)
+open-exactly img log at s f = exactly 0 (length (recordOf opening)) (callRows img opening log at) (settled-call img opening log at) s _ f (open-first img log at)
 
 -- TRACE
 pub trace-first : (img : Image) (p : Partition) (log : List ℕ) (at : ℕ)
-    → First 0 (length (recordOf (trace (p .0)))) (traceRows img p log at) (said ((traceOf img p log at) .answer))
-unfolding callOf judgeAct judge
-trace-first img p log at =
-    rw (said-perform said 0 (length (recordOf (trace (p .0)))) Done NotDone (judgeAct img (trace (p .0))) (recordOf (trace (p .0))) _ img log at refl (λ r. refl))
-    (first-found 0 (length (recordOf (trace (p .0)))) (traceRows img p log at) _
-    (found-then (given 1 0 _ ∷ given 10 0 _ ∷ given 7 0 _ ∷ given 13 0 _ ∷ given 15 0 _ ∷ []) (given 17 0 _ ∷ []) _ _
-    (found-check _ 1 0 _ _ _ (test-sound img)
-    (found-check _ 10 0 _ _ _ (test-open img)
-    (found-check _ 7 0 _ _ _ (test-lt (p .0) (get img partitions))
-    (found-check _ 13 0 _ _ _ (test-unclean img (p .0)) (found-check _ 15 0 _ _ _ (test-ne (get img count) (get img allowance)) found-none)))))
-    (found-room (recordOf (trace (p .0))) log at)))
+    → First 0 (length (recordOf (trace (p .0)))) (callRows img (trace (p .0)) log at) (said ((traceOf img p log at) .answer))
+unfolding callOf
+trace-first img p log at = logged-first said 0 _ Done NotDone _ (recordOf (trace (p .0))) _ img log at _ refl (λ r. refl) (found-call img (trace (p .0)) tt)
 
-pub trace-exactly : (img : Image) (p : Partition) (log : List ℕ) (at : ℕ) (s : Said ℕ) → First 0 (length (recordOf (trace (p .0)))) (traceRows img p log at) s
+pub trace-exactly : (img : Image) (p : Partition) (log : List ℕ) (at : ℕ) (s : Said ℕ) → First 0 (length (recordOf (trace (p .0)))) (callRows img (trace (p .0)) log at) s
     → s ≡ said ((traceOf img p log at) .answer)
-trace-exactly img p log at s f = exactly 0 (length (recordOf (trace (p .0)))) (traceRows img p log at) tt s _ f (trace-first img p log at)
+trace-exactly img p log at s f =
+    exactly 0 (length (recordOf (trace (p .0)))) (callRows img (trace (p .0)) log at) (settled-call img (trace (p .0)) log at) s _ f (trace-first img p log at)
 
 -- CLOSE, which answers the count and the number freed
 pub close-first : (img : Image) (log : List ℕ) (at : ℕ)
-    → First (totals 0 0 0) (totals (length (recordOf closing)) (get img count) (unmarked (get img partitions * get img slots) img)) (closeRows img log at)
+    → First (totals 0 0 0) (totals (length (recordOf closing)) (get img count) (unmarked (get img partitions * get img slots) img)) (callRows img closing log at)
     (saidClosing ((closeOf img log at) .answer))
-unfolding closeOf judgeAct judge
-close-first img log at =
-    rw (said-perform saidClosing (totals 0 0 0) _ (closed img) NotClosed (judgeAct img closing) (recordOf closing) _ img log at refl (λ r. refl))
-    (first-found (totals 0 0 0) _ (closeRows img log at) _
-    (found-then (given 1 0 _ ∷ given 10 0 _ ∷ given 12 0 _ ∷ telling 14 _ ∷ given 16 0 _ ∷ []) (given 17 0 _ ∷ []) _ _
-    (found-check _ 1 0 _ _ _ (test-sound img)
-    (found-check _ 10 0 _ _ _ (test-open img)
-    (found-check _ 12 0 _ _ _ (test-rooted img)
-    (found-tell _ 14 (lowest (get img partitions) img) _ (Lowest img) _ (λ e. found-lowest img (eqb-false _ _ e)) (λ e. none-lowest img (eqb-true _ _ e))
-    (found-check _ 16 0 _ _ _ (test-led img) found-none)))))
-    (found-room (recordOf closing) log at)))
+unfolding closeOf
+close-first img log at = logged-first saidClosing (totals 0 0 0) _ (closed img) NotClosed _ (recordOf closing) _ img log at _ refl (λ r. refl) (found-call img closing tt)
 
 pub close-exactly : (img : Image) (log : List ℕ) (at : ℕ) (s : Said Totals)
-    → First (totals 0 0 0) (totals (length (recordOf closing)) (get img count) (unmarked (get img partitions * get img slots) img)) (closeRows img log at) s
+    → First (totals 0 0 0) (totals (length (recordOf closing)) (get img count) (unmarked (get img partitions * get img slots) img)) (callRows img closing log at) s
     → s ≡ saidClosing ((closeOf img log at) .answer)
-close-exactly img log at s f = exactly (totals 0 0 0) _ (closeRows img log at) (one-lowest img, tt) s _ f (close-first img log at)
+close-exactly img log at s f = exactly (totals 0 0 0) _ (callRows img closing log at) (settled-call img closing log at) s _ f (close-first img log at)
 
 -- READ and ASK
 found-object : (img : Image) (n : Name) → Found (objectRows img n) (judgeObject img n)
@@ -189,14 +193,11 @@ found-object img n =
 
 pub read-first : (img : Image) (n : Name) → First blankRecord (readOf img (place (get img slots) n)) (objectRows img n) (saidReading (readingOf img n))
 unfolding readingOf
-read-first img n = go (judgeObject img n) (first-found _ _ (objectRows img n) _ (found-object img n))
+read-first img n = (judgeObject img n, found-object img n, by (judgeObject img n))
   where
-    r : Record
-    r = readOf img (place (get img slots) n)
-
-    go : (u : Verdict) → First blankRecord r (objectRows img n) (telled blankRecord r u) → First blankRecord r (objectRows img n) (saidReading (reading u r))
-    go Accepted f = f
-    go (Refused x) f = f
+    by : (u : Verdict) → saidReading (reading u (readOf img (place (get img slots) n))) ≡ telled blankRecord (readOf img (place (get img slots) n)) u
+    by Accepted = refl
+    by (Refused x) = refl
 
 pub read-exactly : (img : Image) (n : Name) (s : Said Record) → First blankRecord (readOf img (place (get img slots) n)) (objectRows img n) s → s ≡ saidReading (readingOf img n)
 read-exactly img n s f = exactly blankRecord (readOf img (place (get img slots) n)) (objectRows img n) tt s _ f (read-first img n)
@@ -204,12 +205,12 @@ read-exactly img n s f = exactly blankRecord (readOf img (place (get img slots) 
 pub ask-first : (img : Image) (n : Name)
     → First false (ask (get img partitions) (get img slots) img (place (get img slots) n)) (objectRows img n) (saidAsked (askedOf img n))
 unfolding askedOf
-ask-first img n = go (judgeObject img n) (ask (get img partitions) (get img slots) img (place (get img slots) n)) (λ b. first-found false b (objectRows img n) _ (found-object img n))
+ask-first img n = (judgeObject img n, found-object img n, by (judgeObject img n) (ask (get img partitions) (get img slots) img (place (get img slots) n)))
   where
-    go : (u : Verdict) (b : Bool) → ((b : Bool) → First false b (objectRows img n) (telled false b u)) → First false b (objectRows img n) (saidAsked (asked u b))
-    go Accepted true f = f true
-    go Accepted false f = f false
-    go (Refused x) b f = f b
+    by : (u : Verdict) (b : Bool) → saidAsked (asked u b) ≡ telled false b u
+    by Accepted true = refl
+    by Accepted false = refl
+    by (Refused x) b = refl
 
 pub ask-exactly : (img : Image) (n : Name) (s : Said Bool)
     → First false (ask (get img partitions) (get img slots) img (place (get img slots) n)) (objectRows img n) s → s ≡ saidAsked (askedOf img n)

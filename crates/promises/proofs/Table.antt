@@ -6,12 +6,13 @@ use mathlib.Core.Path.{_≡_, refl, sym, ap, _∙_}
 use mathlib.Core.Bool.{Bool, true, false, true≢false}
 use mathlib.Core.List.{List, [], _∷_, _++_}
 use lib.Dec.{eqb}
-use lib.ListN.{take}
+use lib.ListN.{take, replicate}
 use borrow.Author.Tests.{eqb-true}
 use Rattle.loops.specs.Loop.{both, each, again, tally, every, first}
 use Rattle.loops.proofs.Tests.{both-true}
 use Rattle.loops.proofs.Loops.{every-true}
 use Rattle.kinds.specs.Names.{named, wordOf}
+use Rattle.kinds.specs.Operations.{new, set-to, root-to, unroot, three}
 use Rattle.kinds.specs.declared.Target.the-variants.{Object}
 use Rattle.kinds.specs.declared.Verdict.{Verdict}
 use Rattle.kinds.specs.declared.Verdict.the-variants.{Accepted, Refused}
@@ -20,15 +21,18 @@ use Rattle.lines.specs.Machine.{within, scan}
 use Rattle.lines.specs.Line.{lineOf}
 use Rattle.lines.specs.Decimal.{digits, decimal}
 use Rattle.lines.specs.Print.{field, letters, text, printShape, print}
-use Rattle.model.specs.Image.{Image, state, addr, get, put, lengthOf, size, blank, placeOf, partOf, refer, release}
+use Rattle.model.specs.Image.{Image, state, addr, get, put, lengthOf, size, blank, place, placeOf, partOf, refer, release}
 use Rattle.model.specs.Spread.{follow, pass, spread}
-use Rattle.model.specs.Acts.{Act, commit, opening, closing, trace, mark, markWord, store, born, perform, performAll, unmarked, notClean, unclean, markRoots, allow, openUp, inside, outside, finish, traceOne, clear, settle, shut, closeUp, apply}
+use Rattle.model.specs.Acts.{mark, markWord, store, born, perform, performAll, unmarked, notClean, unclean, markRoots, allow, openUp, inside, outside, finish, traceOne, clear, settle, shut, closeUp, apply}
 use Rattle.model.specs.Judge.{check, andThen, inLimits, judgeFormat, judgeOp, judgeOps, rooted, led, lowest, judge}
-use Rattle.model.proofs.Answers.{layout, refused, accepted, says, new, set-to, root-to, unroot, three}
+use Rattle.model.specs.Sound.{inRange, refOk, freeOk, slotOk, rootOk, flagOk, flagDown, unmarkedAt, openOk, shutOk, soundAt, isSound}
 use Rattle.writer.specs.Record.{recordOf, headingOf}
-use Rattle.journal.specs.Log.{logOf}
+use Rattle.writer.specs.Write.{splice}
 use Rattle.journal.specs.Recover.{act, headed, feed, feedAll, tailOk, Recovered, refusal, recovery, answer, recoverOf}
-use Rattle.promises.specs.Paper.{paperLog, threeObjects, case, from-to, Agree}
+use Rattle.catalogue.specs.Call as call
+use Rattle.catalogue.specs.Call.{judgeAct, judgeCommit, formatOf, callOf, commitOf, closeOf}
+use Rattle.promises.specs.Calls.{Call, open-call, close-call}
+use Rattle.promises.specs.Paper.{paperLog, threeObjects, done, opened, closed, refused, session, committing, tracing, case, from-to, Agree}
 
 -- the test that a recovery is accepted, keeps n bytes and leaves y
 sameWords : List ℕ → List ℕ → Bool
@@ -79,36 +83,44 @@ cut-at k lo hi =
     gives-it 11 (blank 2 4) _ (rw e at (every-true 78 (λ i. gives 11 (blank 2 4) (recoverOf (take (11 + i) paperLog) 85)) cuts (k - 11) (omega arith)))
 
 -- a phase of four traces
-abbrev phases : List Act
-phases = opening ∷ trace 1 ∷ trace 0 ∷ trace 1 ∷ trace 0 ∷ []
+abbrev four-traces : List Call
+four-traces = open-call ∷ tracing 1 ∷ tracing 0 ∷ tracing 1 ∷ tracing 0 ∷ close-call ∷ []
 
 -- root to (0,0), (1,0) unreferenced; both partitions traced, then (0,0) refers to (1,0)
-abbrev late : List Act
-late = commit (new 0 0 1 ∷ new 1 0 2 ∷ root-to 0 0 0 ∷ []) ∷ opening ∷ trace 0 ∷ trace 1 ∷ commit (set-to 0 0 0 1 0 ∷ []) ∷ []
+abbrev late : List Call
+late = committing (new 0 0 1 ∷ new 1 0 2 ∷ root-to 0 0 0 ∷ []) ∷ open-call ∷ tracing 0 ∷ tracing 1 ∷ committing (set-to 0 0 0 1 0 ∷ []) ∷ []
 
--- THE STARRED NUMBERS
+-- two roots on one object
+abbrev two-roots : Call
+two-roots = committing (new 0 0 1 ∷ root-to 0 0 0 ∷ root-to 1 0 0 ∷ [])
+
+-- THE STARRED NUMBERS. The first reply of a session is its formatting's.
 pub table :
     Agree
     -- P = 2, S = 4: 85 words; object (1,0) begins at 61, its name is 65
-    (case (layout (lengthOf (blank 2 4)) (addr (state 4)) (wordOf (Object (named 1 0)))) (layout 85 61 65) ∷
-    -- the paper's log, which these acts write: allowance 4, count 4, 0 freed
-    case (logOf 2 4 (closing ∷ trace 0 ∷ trace 1 ∷ trace 0 ∷ trace 1 ∷ opening ∷ commit three ∷ [])) paperLog ∷
-    case (says (commit three ∷ phases) closing) (accepted 4 4 0) ∷
+    (case (size 2 4) 85 ∷ case (lengthOf (session [] .image)) 85 ∷
+    case (addr (state (place 4 (named 1 0)))) 61 ∷ case (wordOf (Object (named 1 0))) 65 ∷
+    -- the paper's log, which these calls write, the bytes after it left as they were: allowance 4, count 4, 0 freed
+    case (session (committing three ∷ four-traces) .log) (paperLog ++ replicate 68 255) ∷
+    case (session (committing three ∷ four-traces) .replies) (done ∷ done ∷ opened 4 ∷ done ∷ done ∷ done ∷ done ∷ closed 4 0 ∷ []) ∷
     -- with an unreferenced (1,1): allowance 5, 1 freed
-    case (says (commit (three ++ (new 1 1 40 ∷ [])) ∷ phases) closing) (accepted 5 4 1) ∷
+    case (session (committing (three ++ (new 1 1 40 ∷ [])) ∷ four-traces) .replies)
+    (done ∷ done ∷ opened 5 ∷ done ∷ done ∷ done ∷ done ∷ closed 4 1 ∷ []) ∷
     -- with a cycle that no root reaches: 2 freed
-    case (says (commit (three ++ (new 0 2 1 ∷ new 1 2 2 ∷ set-to 0 2 0 1 2 ∷ set-to 1 2 0 0 2 ∷ [])) ∷ phases) closing) (accepted 6 4 2) ∷
+    case (session (committing (three ++ (new 0 2 1 ∷ new 1 2 2 ∷ set-to 0 2 0 1 2 ∷ set-to 1 2 0 0 2 ∷ [])) ∷ four-traces) .replies)
+    (done ∷ done ∷ opened 6 ∷ done ∷ done ∷ done ∷ done ∷ closed 4 2 ∷ []) ∷
     -- a reference stored after the traces: close answers 14 and 1; then trace 1, close: count 3, 0 freed
-    case (says late closing) (refused 14 1) ∷
-    case (says (late ++ (trace 1 ∷ [])) closing) (accepted 3 3 0) ∷
+    case (session (late ++ (close-call ∷ tracing 1 ∷ close-call ∷ [])) .replies)
+    (done ∷ done ∷ opened 3 ∷ done ∷ done ∷ done ∷ refused 14 1 ∷ done ∷ closed 3 0 ∷ []) ∷
     -- two roots on one object, no other: allowance P
-    case (says (commit (new 0 0 1 ∷ root-to 0 0 0 ∷ root-to 1 0 0 ∷ []) ∷ opening ∷ trace 0 ∷ trace 1 ∷ []) closing) (accepted 2 2 0) ∷
+    case (session (two-roots ∷ open-call ∷ tracing 0 ∷ tracing 1 ∷ close-call ∷ []) .replies) (done ∷ done ∷ opened 2 ∷ done ∷ done ∷ closed 2 0 ∷ []) ∷
     -- the last root goes in a phase: close 12
-    case (says (commit three ∷ opening ∷ commit (unroot 0 ∷ []) ∷ []) closing) (refused 12 0) ∷
+    case (session (committing three ∷ open-call ∷ committing (unroot 0 ∷ []) ∷ close-call ∷ []) .replies)
+    (done ∷ done ∷ opened 4 ∷ done ∷ refused 12 0 ∷ []) ∷
     -- open on an empty heap: 12
-    case (says [] opening) (refused 12 0) ∷
+    case (session (open-call ∷ []) .replies) (done ∷ refused 12 0 ∷ []) ∷
     -- trace twice running: 13
-    case (says (commit three ∷ opening ∷ trace 0 ∷ []) (trace 0)) (refused 13 0) ∷
+    case (session (committing three ∷ open-call ∷ tracing 0 ∷ tracing 0 ∷ []) .replies) (done ∷ done ∷ opened 4 ∷ done ∷ refused 13 0 ∷ []) ∷
     -- the paper's log cut at 10 bytes: 3 and line 1, zeros
     case (recoverOf (take 10 paperLog) 85) (refusal 85 3 1) ∷
     -- at 11 to 88: empty heap, kept 11
@@ -118,5 +130,5 @@ pub table :
     -- whole: kept 132, the three objects again
     case (recoverOf paperLog 85) (recovery 132 threeObjects) ∷
     [])
-unfolding headingRows otherRows allRows beginnings prefixesOf code isIn known following within scan lineOf addr get put lengthOf size blank placeOf partOf wordOf refer release each again tally every first follow pass spread mark markWord store born perform performAll unmarked notClean unclean markRoots allow openUp inside outside finish traceOne clear settle shut closeUp apply check andThen inLimits judgeFormat judgeOp judgeOps rooted led lowest judge act headed feed feedAll tailOk answer recoverOf field letters text printShape print digits decimal recordOf headingOf logOf
-table = (refl, (refl, (refl, (refl, (refl, (refl, (refl, (refl, (refl, (refl, (refl, (refl, (cut-at, (refl, (refl, tt)))))))))))))))
+unfolding headingRows otherRows allRows beginnings prefixesOf code isIn known following within scan lineOf addr get put lengthOf size blank placeOf partOf wordOf refer release each again tally every first follow pass spread mark markWord store born perform performAll unmarked notClean unclean markRoots allow openUp inside outside finish traceOne clear settle shut closeUp apply check andThen inLimits judgeFormat judgeOp judgeOps rooted led lowest judge act headed feed feedAll tailOk answer recoverOf field letters text printShape print digits decimal recordOf headingOf splice inRange refOk freeOk slotOk rootOk flagOk flagDown unmarkedAt openOk shutOk soundAt isSound call.perform judgeAct judgeCommit formatOf callOf commitOf closeOf
+table = (refl, (refl, (refl, (refl, (refl, (refl, (refl, (refl, (refl, (refl, (refl, (refl, (refl, (refl, (cut-at, (refl, (refl, tt)))))))))))))))))

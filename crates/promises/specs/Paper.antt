@@ -1,7 +1,17 @@
--- The paper's log, and what a table of numbers says.
-use Prim.Native.Nat.{ℕ, _≤_}
-use mathlib.Core.List.{List, [], _∷_}
+-- The paper's log, and what a table of numbers says: calls made one after the other, and what each replies.
+use Prim.Native.Nat.{ℕ, _+_, _≤_}
+use mathlib.Core.Bool.{cond}
+use mathlib.Core.List.{List, [], _∷_, _++_}
 use mathlib.Core.Path.{_≡_}
+use lib.Dec.{eqb}
+use lib.ListN.{length, take, replicate}
+use Rattle.kinds.specs.Names.{mostOperations}
+use Rattle.kinds.specs.Operations.{unroot}
+use Rattle.kinds.specs.declared.Operation.{Operation}
+use Rattle.model.specs.Image.{Image, allowance, get}
+use Rattle.catalogue.specs.Answers.{Said, said, saidClosing}
+use Rattle.catalogue.specs.Call.{formatOf, commitOf, openOf, traceOf, closeOf}
+use Rattle.promises.specs.Calls.{Call, commit-call, open-call, trace-call, close-call, Made, formatting, calling}
 
 -- the log of the paper's example, byte by byte
 abbrev pub paperLog : List ℕ
@@ -62,6 +72,63 @@ threeObjects =
     -- slot 3 of partition 1
     0 ∷ 0 ∷ 0 ∷ 0 ∷ 0 ∷ 0 ∷
     []
+
+-- what a call answers, in a table: done; an open with the allowance; a close with the traces counted and the number freed; or refused, with the
+-- number and the extra answer
+pub data Reply : Type 0 where
+  done : Reply
+  opened : ℕ → Reply
+  closed : ℕ → ℕ → Reply
+  refused : ℕ → ℕ → Reply
+
+-- number 0 is accepted, and then the reply is r
+abbrev pub reply : {A : Type 0} → Said A → Reply → Reply
+reply s r = cond (eqb (s .number) 0) r (refused (s .number) (s .extra))
+
+-- a call's reply, logged at a place of a buffer; the allowance is word 4 of the image that an open leaves
+abbrev pub replied : Image → Call → List ℕ → ℕ → Reply
+replied img (commit-call ops n) log at = reply (said ((commitOf img ops n log at) .answer)) done
+replied img open-call log at = reply (said ((openOf img log at) .answer)) (opened (get ((openOf img log at) .image) allowance))
+replied img (trace-call p) log at = reply (said ((traceOf img p log at) .answer)) done
+replied img close-call log at =
+    let s = saidClosing ((closeOf img log at) .answer) in
+    reply s (closed (s .value .count) (s .value .freed))
+
+-- after some calls: what each replied, the image, the log buffer, and the byte where the last record ends
+pub record Session : Type 0 where
+  pub replies : List Reply
+  pub image : Image
+  pub log : List ℕ
+  pub end : ℕ
+
+abbrev pub after : List Reply → Reply → Made → ℕ → Session
+after earlier r m at = record { replies = earlier ++ (r ∷ []); image = m .image; log = m .log; end = at + m .length }
+
+-- two partitions of four slots are formatted, over words and bytes that are no zeros
+abbrev pub begun : Session
+begun =
+    let img : Image = replicate 85 7 in
+    let log : List ℕ = replicate 200 255 in
+    after [] (reply (said ((formatOf img 2 4 log 0) .answer)) done) (formatting img 2 4 log 0) 0
+
+-- the next call, logged where the last record ends
+abbrev pub next : Session → Call → Session
+next s c = after (s .replies) (replied (s .image) c (s .log) (s .end)) (calling (s .image) c (s .log) (s .end)) (s .end)
+
+abbrev pub continued : Session → List Call → Session
+continued s [] = s
+continued s (c ∷ cs) = continued (next s c) cs
+
+-- a formatting, and then these calls in turn
+abbrev pub session : List Call → Session
+session cs = continued begun cs
+
+-- a commit of some operations, the first of 32; a trace
+abbrev pub committing : List Operation → Call
+committing os = commit-call (take mostOperations (os ++ replicate mostOperations (unroot 0))) (length os)
+
+abbrev pub tracing : ℕ → Call
+tracing p = trace-call (record { 0 = p })
 
 -- a row of a table: what is computed and what it must be; or the same of every number from a to b
 pub data Case : Type 1 where

@@ -1,18 +1,85 @@
--- Demand 3: a phase, opened by a call on the heap x, and whatever calls are made in it.
-use Prim.Native.Nat.{ℕ}
-use mathlib.Core.List.{List, [], _∷_}
+-- Demand 3: a phase, on every heap that calls reached, however commits, traces and recoveries are mixed.
+use Prim.Native.Nat.{ℕ, _+_, _*_, _≤_, _<_}
+use mathlib.Core.Bool.{true}
+use mathlib.Core.List.{List, [], _∷_, _++_}
 use mathlib.Core.Path.{_≡_}
 use mathlib.Core.Logic.{_≢_}
-use Rattle.model.specs.Image.{Image}
-use Rattle.model.specs.Acts.{Act}
-use Rattle.promises.specs.Calls.{Call, open-call, close-call, actOf, formatting, calling}
+use lib.ListN.{length}
+use Rattle.kinds.specs.declared.Partition.{Partition}
+use Rattle.model.specs.Image.{Image, flag, state, partitions, slots, count, get}
+use Rattle.model.specs.Acts.{Act, opening, closing, trace, unmarked}
+use Rattle.model.specs.Chains.{Leads, Stays, ChainTo}
+use Rattle.model.specs.History.{traces, Unclosed, unrooted}
+use Rattle.model.specs.Sound.{isSound}
+use Rattle.writer.specs.Record.{Rule, recordOf}
+use Rattle.journal.specs.Log.{replay}
+use Rattle.catalogue.specs.Answers.{accepted, totals, said, saidClosing}
+use Rattle.catalogue.specs.Call.{traceOf, closeOf}
+use Rattle.promises.specs.Rows.{NoRoot, Clean, Lowest}
+use Rattle.promises.specs.Calls.{Call, close-call, calling}
 
--- the acts accepted since the opening, the last first, and the heap now. (Read and ask leave it as found; an accepted close, a formatting and a recovery end it.)
-pub data During (x : Image) : List Act → Image → Type 0 where
-  opened : (log : List ℕ) (at : ℕ) → (calling x open-call log at) .number ≡ 0 → During x [] ((calling x open-call log at) .image)
-  called : {acts : List Act} {y : Image} → During x acts y
-      → (c : Call) → c ≢ close-call → (log : List ℕ) (at : ℕ) → (calling y c log at) .number ≡ 0 → During x (actOf c ∷ acts) ((calling y c log at) .image)
-  refused : {acts : List Act} {y : Image} → During x acts y
-      → (c : Call) (log : List ℕ) (at : ℕ) → (calling y c log at) .number ≢ 0 → During x acts ((calling y c log at) .image)
-  unformatted : {acts : List Act} {y : Image} → During x acts y
-      → (P S : ℕ) (log : List ℕ) (at : ℕ) → (formatting y P S log at) .number ≢ 0 → During x acts ((formatting y P S log at) .image)
+-- log room: the act's record fits from the place
+abbrev pub Room : Act → List ℕ → ℕ → Type 0
+Room a log at = at + length (recordOf a) ≤ length log
+
+-- given log room, a trace of p is accepted
+abbrev pub Traceable : Image → Partition → Type 0
+Traceable y p = (log : List ℕ) (at : ℕ) → Room (trace (p .0)) log at → said ((traceOf y p log at) .answer) ≡ accepted (length (recordOf (trace (p .0))))
+
+-- given log room, a close is accepted, and answers word 3 and the number of unmarked objects
+abbrev pub Closable : Image → Type 0
+Closable y =
+    (log : List ℕ) (at : ℕ) → Room closing log at
+    → saidClosing ((closeOf y log at) .answer) ≡ accepted (totals (length (recordOf closing)) (get y count) (unmarked (get y partitions * get y slots) y))
+
+abbrev pub AllClean : Image → Type 0
+AllClean y = (p : ℕ) → p < get y partitions → Clean y p
+
+-- the lowest partition that is not clean is traced, again and again, wherever there is log room, until all are clean: the partitions in this order, and the heap
+-- that is left
+pub data LowestFirst : Image → List Partition → Image → Type 0 where
+  all-clean : {y : Image} → AllClean y → LowestFirst y [] y
+  tracing : {y z : Image} {ps : List Partition} (p : Partition) → Lowest y (p .0) → Traceable y p
+      → ((log : List ℕ) (at : ℕ) → Room (trace (p .0)) log at → LowestFirst ((traceOf y p log at) .image) ps z) → LowestFirst y (p ∷ ps) z
+
+-- y in a phase that has n traces in all: so few of the lowest first leave all partitions clean, and then, if a root is in use, the phase can be closed
+pub record Ends (n : ℕ) (y : Image) : Type 0 where
+  pub order : List Partition
+  pub heap : Image
+  pub lowest-first : LowestFirst y order heap
+  pub few : get y count + length order ≤ n
+  pub closable : (NoRoot y → ⊥) → Closable heap
+
+-- P + W, W being the objects in use that no root names at the opening, which comes after the acts `earlier`
+abbrev pub most : Rule → List Act → ℕ
+most h earlier = h .P + unrooted (h .P) (h .S) (replay h earlier)
+
+-- of what an accepted close leaves
+abbrev pub AfterClose : Image → (Image → Type 0) → Type 0
+AfterClose y Q = (log : List ℕ) (at : ℕ) → (calling y close-call log at) .number ≡ 0 → Q ((calling y close-call log at) .image)
+
+-- DEMAND 3. After the history `acts` under the heading's rule h the phase is open on the heap y
+pub record Demand-3-calls (h : Rule) (acts : List Act) (y : Image) : Type 0 where
+  -- P and S are words 0 and 1
+  pub partitions-are : get y partitions ≡ h .P
+  pub slots-are : get y slots ≡ h .S
+  -- the phase was opened after the acts `earlier`, and what came since closes nothing
+  pub earlier : List Act
+  pub since : List Act
+  pub split : acts ≡ since ++ (opening ∷ earlier)
+  pub unclosed : Unclosed since
+  -- at most P + W traces, and word 3 is their number
+  pub bound : traces since ≤ most h earlier
+  pub counted : get y count ≡ traces since
+  pub sound : isSound y ≡ true
+  -- given log room, a partition that is not clean is traced, and with all clean and a root in use the phase is closed
+  pub traceable : (p : Partition) → p .0 < h .P → get y (flag (p .0)) ≡ 0 → Traceable y p
+  pub closable : AllClean y → (NoRoot y → ⊥) → Closable y
+  -- until all are clean together: from here at most P + W less word 3 traces, then the close
+  pub progress : Ends (most h earlier) y
+  -- no call answers 15 or 16
+  pub never : (c : Call) (log : List ℕ) (at : ℕ) → ((calling y c log at) .number ≢ 15) × ((calling y c log at) .number ≢ 16)
+  -- the close keeps every object that a root leads to, and frees every object that no chain leads to
+  pub keeps : AfterClose y (λ z. (j : ℕ) → Leads (h .S) y j → Stays y z j)
+  pub frees : AfterClose y (λ z. (j : ℕ) → j < h .P * h .S → (ChainTo (h .S) earlier (replay h earlier) since j → ⊥) → get z (state j) ≡ 0)
+  pub sound-after : AfterClose y (λ z. isSound z ≡ true)

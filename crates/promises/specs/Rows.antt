@@ -5,16 +5,18 @@ use mathlib.Core.Path.{_≡_}
 use mathlib.Core.Logic.{_≢_, _⊎_}
 use lib.ListN.{length, take}
 use Rattle.kinds.specs.Names.{mostPartitions, mostSlots, mostOperations, roots, fields}
+use Rattle.kinds.specs.Answers.{refuse}
 use Rattle.kinds.specs.declared.Name.{Name}
-use Rattle.kinds.specs.declared.Partition.{Partition}
 use Rattle.kinds.specs.declared.Target.{Target}
 use Rattle.kinds.specs.declared.Target.the-variants.{Nothing, Object}
 use Rattle.kinds.specs.declared.Operation.{Operation}
 use Rattle.kinds.specs.declared.Operation.the-variants.{New, Set, Val, Root}
+use Rattle.kinds.specs.declared.Verdict.{Verdict}
+use Rattle.kinds.specs.declared.Verdict.the-variants.{Accepted, Refused}
 use Rattle.model.specs.Image.{Image, Key, root, flag, state, field, partitions, slots, phase, count, allowance, anchors, get, lengthOf, size, place, placeOf}
-use Rattle.model.specs.Acts.{commit, opening, closing, trace, perform}
+use Rattle.model.specs.Acts.{Act, commit, opening, closing, trace, perform}
 use Rattle.model.specs.Sound.{Sound}
-use Rattle.writer.specs.Record.{recordOf, headingOf}
+use Rattle.writer.specs.Record.{recordOf, newest, headingOf}
 use Rattle.catalogue.specs.Answers.{Said, accepted, refusedWith}
 
 -- a row: the number, its extra answer and its condition; or the number and a condition on its extra answer
@@ -22,13 +24,19 @@ pub data Row : Type 1 where
   given : ℕ → ℕ → Type 0 → Row
   telling : ℕ → (ℕ → Type 0) → Row
 
--- What a list says: the number and the extra answer of the first row whose condition holds, and nothing beside (`z`); where none holds,
--- accepted, with the values `v`.
+-- What a list says: refused with the number and the extra answer of the first row whose condition holds; accepted where none holds.
+unfoldable pub Found : List Row → Verdict → Type 0
+Found [] u = u ≡ Accepted
+Found (given n e C ∷ rows) u = (C × (u ≡ refuse n e)) ⊎ ((C → ⊥) × Found rows u)
+Found (telling n E ∷ rows) u = ((e : ℕ) × E e × (u ≡ refuse n e)) ⊎ (((e : ℕ) → E e → ⊥) × Found rows u)
+
+-- an answer that says so: accepted with the values `v`, or refused with nothing beside (`z`)
+abbrev pub telled : {A : Type 0} → A → A → Verdict → Said A
+telled z v Accepted = accepted v
+telled z v (Refused r) = refusedWith z r
+
 abbrev pub First : {A : Type 0} → A → A → List Row → Said A → Type 0
-First z v [] s = s ≡ accepted v
-First z v (given n e C ∷ rows) s = (C × (s ≡ refusedWith z (record { number = n; extra = e }))) ⊎ ((C → ⊥) × First z v rows s)
-First z v (telling n E ∷ rows) s =
-    ((e : ℕ) × E e × (s ≡ refusedWith z (record { number = n; extra = e }))) ⊎ (((e : ℕ) → E e → ⊥) × First z v rows s)
+First z v rows s = (u : Verdict) × Found rows u × (s ≡ telled z v u)
 
 -- 1: image not sound
 abbrev pub Unsound : Image → Type 0
@@ -107,7 +115,7 @@ NoRoom bytes at log = length log < at + length bytes
 
 -- FORMAT 2, 17
 abbrev pub formatRows : Image → ℕ → ℕ → List ℕ → ℕ → List Row
-formatRows img P S log at = given 2 0 (WrongSize P S (lengthOf img)) ∷ given 17 0 (NoRoom (headingOf P S) at log) ∷ []
+formatRows img P S log at = given 2 0 (WrongSize P S (lengthOf img)) ∷ given 17 0 (NoRoom (headingOf (newest P S)) at log) ∷ []
 
 -- one operation at position e: 7 for all its numbers, then 8 or 9, set's holder before its target
 abbrev pub operationRows : ℕ → ℕ → Image → ℕ → Operation → List Row
@@ -122,27 +130,22 @@ abbrev pub operationsRows : ℕ → ℕ → Image → ℕ → List Operation →
 operationsRows P S img e [] = []
 operationsRows P S img e (o ∷ os) = operationRows P S img e o ++ operationsRows P S (perform S img o) (e + 1) os
 
--- COMMIT 1, 6, each operation in turn, 17: the first n of 32 operations
+-- an act's own list, in its call as in recovery: each operation in turn; OPEN 11, 12; TRACE 10, 7, 13, 15;
+-- CLOSE 10, 12, 14, 16, with 14 the lowest partition that is not clean
+abbrev pub actRows : Image → Act → List Row
+actRows img (commit os) = operationsRows (get img partitions) (get img slots) img 1 os
+actRows img opening = given 11 0 (AlreadyOpen img) ∷ given 12 0 (NoRoot img) ∷ []
+actRows img (trace p) = given 10 0 (NotOpen img) ∷ given 7 0 (get img partitions ≤ p) ∷ given 13 0 (Clean img p) ∷ given 15 0 (Spent img) ∷ []
+actRows img closing = given 10 0 (NotOpen img) ∷ given 12 0 (NoRoot img) ∷ telling 14 (Lowest img) ∷ given 16 0 (Astray img) ∷ []
+
+-- OPEN, TRACE, CLOSE: 1, the act's own list, 17
+abbrev pub callRows : Image → Act → List ℕ → ℕ → List Row
+callRows img a log at = given 1 0 (Unsound img) ∷ (actRows img a ++ (given 17 0 (NoRoom (recordOf a) at log) ∷ []))
+
+-- COMMIT of the first n of 32 operations: 1, 6, the act's own list, 17
 abbrev pub commitRows : Image → List Operation → ℕ → List ℕ → ℕ → List Row
 commitRows img ops n log at =
-    given 1 0 (Unsound img) ∷ given 6 0 (WrongCount n) ∷
-    (operationsRows (get img partitions) (get img slots) img 1 (take n ops) ++ (given 17 0 (NoRoom (recordOf (commit (take n ops))) at log) ∷ []))
-
--- OPEN 1, 11, 12, 17
-abbrev pub openRows : Image → List ℕ → ℕ → List Row
-openRows img log at = given 1 0 (Unsound img) ∷ given 11 0 (AlreadyOpen img) ∷ given 12 0 (NoRoot img) ∷ given 17 0 (NoRoom (recordOf opening) at log) ∷ []
-
--- TRACE 1, 10, 7, 13, 15, 17
-abbrev pub traceRows : Image → Partition → List ℕ → ℕ → List Row
-traceRows img p log at =
-    given 1 0 (Unsound img) ∷ given 10 0 (NotOpen img) ∷ given 7 0 (get img partitions ≤ p .0) ∷ given 13 0 (Clean img (p .0)) ∷
-    given 15 0 (Spent img) ∷ given 17 0 (NoRoom (recordOf (trace (p .0))) at log) ∷ []
-
--- CLOSE 1, 10, 12, 14, 16, 17: with 14 the lowest partition that is not clean
-abbrev pub closeRows : Image → List ℕ → ℕ → List Row
-closeRows img log at =
-    given 1 0 (Unsound img) ∷ given 10 0 (NotOpen img) ∷ given 12 0 (NoRoot img) ∷ telling 14 (Lowest img) ∷ given 16 0 (Astray img) ∷
-    given 17 0 (NoRoom (recordOf closing) at log) ∷ []
+    given 1 0 (Unsound img) ∷ given 6 0 (WrongCount n) ∷ (actRows img (commit (take n ops)) ++ (given 17 0 (NoRoom (recordOf (commit (take n ops))) at log) ∷ []))
 
 -- READ and ASK 1, 7, 9
 abbrev pub objectRows : Image → Name → List Row

@@ -96,7 +96,7 @@ impl Call {
     }
 
     // The operation that a call names, as the log's line of the same words does.
-    pub fn operation(self) -> Waiting
+    pub(crate) fn operation(self) -> Waiting
         ensures { λ r. ⌜ r ≡ operationOf self ⌝ }
     {
         let r = Read {

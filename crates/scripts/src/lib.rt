@@ -3,7 +3,7 @@
 // the log's lines; that a word is the number v exactly where it is v's decimal text, and a keyword exactly where it is the keyword's text, is
 // proved in proofs/Numbers.antt and proofs/Keywords.antt.
 pub mod command;
-pub mod number;
+mod number;
 pub mod order;
 pub mod run;
-pub mod table;
+mod table;

@@ -39,7 +39,7 @@ fn scanned(word: &[u8]) -> Scan
 }
 
 // The number that a word is: decimal, at most 4,294,967,295, no sign, no leading zero. It is read as the number of the log's line `end` is.
-pub fn number(word: &[u8]) -> Parsed
+pub(crate) fn number(word: &[u8]) -> Parsed
     ensures { λ r. ⌜ r ≡ numberOf (now (word .entry)) ⌝ }
 {
     match finish(scanned(word)) {
@@ -54,7 +54,7 @@ pub fn number(word: &[u8]) -> Parsed
 }
 
 // The number that a word of at most eight small letters is, its bytes read as digits in base 256; 0 of any other.
-pub fn keyword(word: &[u8]) -> u64
+pub(crate) fn keyword(word: &[u8]) -> u64
     ensures { λ r. ⌜ r ≡ keywordOf (now (word .entry)) ⌝ }
 {
     let mut k: u64 = 0;

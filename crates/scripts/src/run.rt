@@ -55,7 +55,7 @@ pub fn end_of(bytes: &[u8], at: usize, run: Run) -> usize
 }
 
 // The first word from a place on.
-pub fn word_at(line: &[u8], at: usize) -> Span
+pub(crate) fn word_at(line: &[u8], at: usize) -> Span
     ensures { λ r. ⌜ r ≡ wordAt (now (line .entry)) at ⌝ }
 {
     let from = end_of(line, at, Run::Gap);

@@ -42,7 +42,7 @@ pub const LOG: u64 = 7106407;
 pub const NONE: usize = 6;
 
 // How many numbers follow a keyword. `bytes` has none here, since any number may follow it.
-pub fn takes(w: u64) -> usize
+pub(crate) fn takes(w: u64) -> usize
     ensures { λ r. ⌜ r ≡ takes rows w ⌝ }
 {
     match w {

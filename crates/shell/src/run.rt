@@ -28,8 +28,8 @@ fn bytes() -> [u8; 65536]
     [0; 65536]
 }
 
-fn no_operations() -> [Operation; 32] {
-    [Operation::Root(0, Target::Nothing); 32]
+fn no_operations() -> [Operation; Operation::LIMIT] {
+    [Operation::Root(0, Target::Nothing); Operation::LIMIT]
 }
 
 // Where the line that starts at a place ends.
