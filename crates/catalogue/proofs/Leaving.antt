@@ -26,7 +26,7 @@ use Rattle.writer.specs.Write.{splice}
 use Rattle.catalogue.specs.Call.{noRoom, Outcome, outcome, perform, judgeAct, judgeCommit, judgeObject, formatOf, callOf, commitOf, closeOf, reading, readingOf, asked, askedOf}
 use Rattle.catalogue.specs.Answers.{said, saidClosing, saidReading, saidAsked}
 use Rattle.catalogue.proofs.Judged.{passed, act-sound, act-judged, commit-sound, commit-judged}
-use Rattle.catalogue.proofs.Numbers.{Among, accepted, numbered, check-among, among-wider, act-among, name-among, format-among}
+use Rattle.model.proofs.Numbers.{Among, accepted, numbered, check-among, among-wider, act-among, name-among, format-among}
 
 module _ {A : Type 0} (done-as : ℕ → A) (refused-as : Refusal → A) (bytes : List ℕ) (next img : Image) (log : List ℕ) (at : ℕ) where
   -- a logged call ends in one of two ways; a refusal's number is lo or above

@@ -1,5 +1,4 @@
 pub mod Perform
 pub mod Judged
 pub mod Unique
-pub mod Numbers
 pub mod Leaving

@@ -25,6 +25,11 @@ module _ {A : Type 0} where
   abbrev pub refusedWith : A → Refusal → Said A
   refusedWith v r = record { number = r .number; extra = r .extra; value = v }
 
+  -- of a value that stands beside a verdict
+  abbrev pub saidVerdict : Verdict → A → Said A
+  saidVerdict Accepted v = accepted v
+  saidVerdict (Refused r) v = refusedWith v r
+
 -- format, commit, open, trace: the record's length; refused: 0
 abbrev pub said : Answer → Said ℕ
 said (Done n) = accepted n
@@ -44,10 +49,6 @@ saidClosing (Closed n c f) = accepted (totals n c f)
 saidClosing (NotClosed r) = refusedWith (totals 0 0 0) r
 
 -- read: the record that stands beside the verdict
-abbrev pub saidVerdict : Verdict → Record → Said Record
-saidVerdict Accepted x = accepted x
-saidVerdict (Refused r) x = refusedWith x r
-
 abbrev pub saidReading : Reading → Said Record
 saidReading r = saidVerdict (r .verdict) (r .object)
 

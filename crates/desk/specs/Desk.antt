@@ -16,6 +16,8 @@ use Rattle.writer.specs.Write.{splice}
 use Rattle.catalogue.specs.Call.{Outcome, outcome, formatOf, commitOf, openOf, traceOf, closeOf}
 use Rattle.scripts.specs.declared.command.Next.{Next}
 use Rattle.scripts.specs.declared.command.Next.the-variants.{Number, Nothing as NoWord, Bad}
+use Rattle.scripts.specs.declared.order.Look.{Look as A-look}
+use Rattle.scripts.specs.declared.order.Look.the-variants.{Read, Ask, Digest, Show, Log, Help}
 use Rattle.scripts.specs.declared.order.Deed.{Deed as A-deed}
 use Rattle.scripts.specs.declared.order.Deed.the-variants.{Word, Format, Commit, Open, Trace, Close, Recover, Look}
 use Rattle.scripts.specs.declared.order.Order.{Order}
@@ -73,6 +75,19 @@ put s xs = record { said = s; list = xs }
 unfoldable pub putWord : ℕ → ℕ → Image → Put
 putWord i v img = cond (ltb i (length img)) (put Ok (set img i v)) (put Asked-what img)
 
+-- `log` asks for more bytes than are lent
+abbrev pub past : A-look → ℕ → Bool
+past (Read n) lent = false
+past (Ask n) lent = false
+past Digest lent = false
+past Show lent = false
+past (Log n) lent = ltb lent n
+past Help lent = false
+
+-- what is seen on a log buffer of so many bytes
+unfoldable pub seenFor : A-look → ℕ → Said
+seenFor l lent = cond (past l lent) Asked-what (Seen l)
+
 -- A DEED, with n operations waiting
 abbrev pub deedOf : A-deed → List Operation → ℕ → Image → List ℕ → Outcome Said
 deedOf (Word i v) ops n img log = outcome (putWord i v img .said) (putWord i v img .list) log
@@ -82,7 +97,7 @@ deedOf (Open at) ops n img log = answered Done (openOf img log at)
 deedOf (Trace p at) ops n img log = answered Done (traceOf img p log at)
 deedOf (Close at) ops n img log = answered Closed (closeOf img log at)
 deedOf (Recover k) ops n img log = recoverFor k img log
-deedOf (Look l) ops n img log = outcome (Seen l) img log
+deedOf (Look l) ops n img log = outcome (seenFor l (length log)) img log
 
 -- the bytes that stand in a line from a place on
 pub data Listed : Type 0 where

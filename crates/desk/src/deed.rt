@@ -2,9 +2,10 @@
 use crate::Said;
 use kinds::Operation;
 use scripts::order::Deed;
+use scripts::order::Look;
 ghost use mathlib.Core.Path.{_≡_};
 ghost use Rattle.catalogue.specs.Call.{outcome};
-ghost use Rattle.desk.specs.Desk.{deedOf, recoverFor, put, putWord};
+ghost use Rattle.desk.specs.Desk.{deedOf, recoverFor, past, seenFor, put, putWord};
 
 // One word of the image.
 fn word(i: usize, v: u32, img: &mut [u32]) -> Said
@@ -27,6 +28,30 @@ fn recover(n: usize, img: &mut [u32], log: &[u8]) -> Said
     Said::Recovered(recovery::recover(img, &log[..n]))
 }
 
+// Whether a look asks for more bytes than are lent.
+fn past(l: Look, lent: usize) -> bool
+    ensures { λ r. ⌜ r ≡ past l lent ⌝ }
+{
+    match l {
+        Look::Read(_) => false,
+        Look::Ask(_) => false,
+        Look::Digest => false,
+        Look::Show => false,
+        Look::Log(n) => lent < n,
+        Look::Help => false,
+    }
+}
+
+// What is seen on a log buffer of so many bytes.
+fn seen(l: Look, lent: usize) -> Said
+    ensures { λ r. ⌜ r ≡ seenFor l lent ⌝ }
+{
+    if past(l, lent) {
+        return Said::What;
+    }
+    Said::Look(l)
+}
+
 // A deed, with n operations waiting.
 pub(crate) fn deed(
     x: Deed,
@@ -45,6 +70,6 @@ pub(crate) fn deed(
         Deed::Trace(p, at) => Said::Done(catalogue::trace(img, p, log, at)),
         Deed::Close(at) => Said::Closed(catalogue::close(img, log, at)),
         Deed::Recover(k) => recover(k, img, &*log),
-        Deed::Look(l) => Said::Look(l),
+        Deed::Look(l) => seen(l, log.len()),
     }
 }

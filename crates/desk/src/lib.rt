@@ -54,9 +54,16 @@ impl Desk {
     pub fn new() -> Desk
         ensures { λ r. ⌜ r ≡ desk 0 0 0 ⌝ }
     {
+        Desk::lent(0, 0)
+    }
+
+    // So many words and bytes are lent, and nothing waits.
+    pub fn lent(words: usize, bytes: usize) -> Desk
+        ensures { λ r. ⌜ r ≡ desk words bytes 0 ⌝ }
+    {
         Desk {
-            words: 0,
-            bytes: 0,
+            words: words,
+            bytes: bytes,
             waits: 0,
         }
     }

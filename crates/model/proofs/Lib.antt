@@ -12,6 +12,7 @@ pub mod SoundnessMoves
 pub mod SoundnessActs
 pub mod Reaching
 pub mod Refusing
+pub mod Numbers
 pub mod Bound
 pub mod Chaining
 pub mod Splitting

@@ -23,7 +23,7 @@ use Rattle.catalogue.specs.declared.Closing.{Closing}
 use Rattle.catalogue.specs.declared.Closing.the-variants.{Refused as NotClosed}
 use Rattle.catalogue.specs.Call.{Outcome, judgeIn, applyIn, judgeAct, judgeCommit, formatOf, callOf, commitOf, closed, closeOf}
 use Rattle.catalogue.proofs.Judged.{act-sound, act-judged, commit-sound, commit-judged}
-use Rattle.catalogue.proofs.Numbers.{Among, accepted, numbered, act-among, format-among}
+use Rattle.model.proofs.Numbers.{Among, accepted, numbered, act-among, format-among}
 use Rattle.promises.specs.Calls.{Call, commit-call, open-call, close-call, trace-call, actOf, Made, answered, closed-up, formatting, calling}
 use Rattle.promises.proofs.Listing.{fully, Performed, did, left, performed}
 

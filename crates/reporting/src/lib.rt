@@ -2,7 +2,7 @@
 // `toolong`. Its bytes are a definition of the log, specs/Report.antt's `reportOf`, over the journal's recovery; `report` writes exactly
 // these into the lent bytes (`reported`), for any bytes as log. That no report is longer than ROOM is proved in proofs/Reporting.antt. The
 // image is lent with as many words as the log's heading asks for, so that 2 is answered for P or S alone.
-mod asked;
+pub mod asked;
 mod rows;
 
 use crate::asked::asked_of;

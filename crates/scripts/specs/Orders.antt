@@ -10,12 +10,12 @@ use Rattle.scripts.specs.declared.command.Command.{Command}
 use Rattle.scripts.specs.declared.command.Command.the-variants.{Nothing as NoCommand, Bytes as SomeBytes, Call, What as NoShape}
 use Rattle.scripts.specs.declared.command.Waiting.{Waiting}
 use Rattle.scripts.specs.declared.command.Waiting.the-variants.{Operation, Nothing as NoOperation}
-use Rattle.scripts.specs.declared.order.Look.the-variants.{Read, Ask, Digest, Show, Log}
+use Rattle.scripts.specs.declared.order.Look.the-variants.{Read, Ask, Digest, Show, Log, Help}
 use Rattle.scripts.specs.declared.order.Deed.the-variants.{Word, Format, Commit, Open, Trace, Close, Recover, Look}
 use Rattle.scripts.specs.declared.order.Order.{Order}
 use Rattle.scripts.specs.declared.order.Order.the-variants.{Nothing, What, Image, Buffer, Bytes, Wait, Deed}
 use Rattle.scripts.specs.Commands.{operationOf}
-use Rattle.scripts.specs.Table.{imageText, wordText, bufferText, formatText, commitText, readText, askText, recoverText, digestText, showText, logText}
+use Rattle.scripts.specs.Table.{imageText, wordText, bufferText, formatText, commitText, readText, askText, recoverText, digestText, showText, logText, helpText}
 
 -- a keyword, and what it asks for
 pub record Arm : Type 0 where
@@ -42,6 +42,7 @@ arms k =
     ∷ arm digestText (Deed (Look Digest))
     ∷ arm showText (Deed (Look Show))
     ∷ arm logText (Deed (Look (Log (k .e))))
+    ∷ arm helpText (Deed (Look Help))
     ∷ []
 
 -- what the first arm with a keyword asks for

@@ -3,7 +3,7 @@ use Prim.Native.Nat.{ℕ, suc, _+_, _-_}
 use mathlib.Core.Bool.{Bool, true, cond, not}
 use mathlib.Core.List.{List, [], _∷_}
 use lib.Dec.{eqb}
-use lib.ListN.{take, drop}
+use lib.ListN.{length, take, drop, getD}
 use Rattle.scripts.specs.declared.run.Run.{Run}
 use Rattle.scripts.specs.declared.run.Run.the-variants.{Gap, Word, Line}
 use Rattle.scripts.specs.declared.run.Span.{Span}
@@ -34,3 +34,7 @@ wordAt line at = record { from = endOf Gap line at; to = endOf Word line (endOf 
 -- the bytes of a word
 abbrev pub textOf : List ℕ → Span → List ℕ
 textOf line w = take (w .to - w .from) (drop (w .from) line)
+
+-- the length of a line without the byte 13 that may stand at its end
+unfoldable pub bareOf : List ℕ → ℕ
+bareOf line = cond (eqb (getD line (length line - 1) 0) 13) (length line - 1) (length line)

@@ -39,6 +39,9 @@ showText = 115 ∷ 104 ∷ 111 ∷ 119 ∷ []
 abbrev pub logText : List ℕ
 logText = 108 ∷ 111 ∷ 103 ∷ []
 
+abbrev pub helpText : List ℕ
+helpText = 104 ∷ 101 ∷ 108 ∷ 112 ∷ []
+
 -- the commands, with how many numbers they have; `bytes`, which any number may follow, stands apart
 unfoldable pub rows : List Row
 rows =
@@ -62,6 +65,7 @@ rows =
     ∷ record { text = digestText; numbers = 0 }
     ∷ record { text = showText; numbers = 0 }
     ∷ record { text = logText; numbers = 1 }
+    ∷ record { text = helpText; numbers = 0 }
     ∷ []
 
 -- `bytes` as a number

@@ -8,6 +8,7 @@ use crate::table::CLOSE;
 use crate::table::COMMIT;
 use crate::table::DIGEST;
 use crate::table::FORMAT;
+use crate::table::HELP;
 use crate::table::IMAGE;
 use crate::table::LOG;
 use crate::table::OPEN;
@@ -31,6 +32,7 @@ pub enum Look {
     Digest,
     Show,
     Log(usize),
+    Help,
 }
 
 // What is done on the lent image and log buffer.
@@ -87,6 +89,7 @@ fn keyed(k: Call) -> Order
         DIGEST => Order::Deed(Deed::Look(Look::Digest)),
         SHOW => Order::Deed(Deed::Look(Look::Show)),
         LOG => Order::Deed(Deed::Look(Look::Log(to))),
+        HELP => Order::Deed(Deed::Look(Look::Help)),
         _ => Order::What,
     }
 }

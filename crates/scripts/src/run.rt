@@ -1,6 +1,6 @@
 // Runs of bytes: the spaces and tabs between words, words, lines.
 ghost use mathlib.Core.Path.{_≡_};
-ghost use Rattle.scripts.specs.Runs.{goesOn, endOf, wordAt};
+ghost use Rattle.scripts.specs.Runs.{goesOn, endOf, wordAt, bareOf};
 
 // What a run is made of.
 pub enum Run {
@@ -61,4 +61,18 @@ pub(crate) fn word_at(line: &[u8], at: usize) -> Span
     let from = end_of(line, at, Run::Gap);
     let to = end_of(line, from, Run::Word);
     Span { from: from, to: to }
+}
+
+// The length of a line without the byte 13 that may stand at its end: editors of some systems end lines by 13 and 10.
+pub fn bare(line: &[u8]) -> usize
+    ensures { λ r. ⌜ r ≡ bareOf (now (line .entry)) ⌝ }
+{
+    let n = line.len();
+    if n == 0 {
+        return 0;
+    }
+    if line[n - 1] == 13 {
+        return n - 1;
+    }
+    n
 }

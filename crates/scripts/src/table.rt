@@ -38,6 +38,8 @@ pub const SHOW: u64 = 1936224119;
 
 pub const LOG: u64 = 7106407;
 
+pub const HELP: u64 = 1751477360;
+
 // More numbers than any command has: what is no keyword takes so many.
 pub const NONE: usize = 6;
 
@@ -46,7 +48,7 @@ pub(crate) fn takes(w: u64) -> usize
     ensures { λ r. ⌜ r ≡ takes rows w ⌝ }
 {
     match w {
-        DIGEST | SHOW => 0,
+        DIGEST | SHOW | HELP => 0,
         IMAGE | BUFFER | UNROOT | COMMIT | OPEN | CLOSE | RECOVER | LOG => 1,
         WORD | TRACE | READ | ASK => 2,
         FORMAT | NEW | CLR | VAL | ROOT => 3,

@@ -4,6 +4,7 @@ use crate::out::decimal;
 use crate::out::end;
 use crate::out::number;
 use crate::out::text;
+use crate::out::valued;
 use catalogue::Answer;
 use catalogue::Asked;
 use catalogue::Closing;
@@ -25,16 +26,14 @@ pub(crate) fn ok(out: &mut [u8; 4096], at: usize) -> usize {
 
 // A word, a number and the line end.
 pub(crate) fn counted(out: &mut [u8; 4096], at: usize, word: &[u8], n: usize) -> usize {
-    let a = text(&mut *out, at, word);
-    let b = number(&mut *out, a, n as u64);
-    end(out, b)
+    let a = valued(&mut *out, at, word, n as u64);
+    end(out, a)
 }
 
 fn refused(out: &mut [u8; 4096], at: usize, r: Refusal) -> usize {
-    let a = text(&mut *out, at, b"refused");
-    let b = number(&mut *out, a, r.number as u64);
-    let c = number(&mut *out, b, r.extra as u64);
-    end(out, c)
+    let a = valued(&mut *out, at, b"refused", r.number as u64);
+    let b = number(&mut *out, a, r.extra as u64);
+    end(out, b)
 }
 
 pub(crate) fn answered(out: &mut [u8; 4096], at: usize, a: Answer) -> usize {
@@ -47,11 +46,10 @@ pub(crate) fn answered(out: &mut [u8; 4096], at: usize, a: Answer) -> usize {
 pub(crate) fn closed(out: &mut [u8; 4096], at: usize, c: Closing) -> usize {
     match c {
         Closing::Closed(n, traces, freed) => {
-            let a = text(&mut *out, at, b"done");
-            let b = number(&mut *out, a, n as u64);
-            let d = number(&mut *out, b, traces as u64);
-            let e = number(&mut *out, d, freed as u64);
-            end(out, e)
+            let a = valued(&mut *out, at, b"done", n as u64);
+            let b = number(&mut *out, a, traces as u64);
+            let d = number(&mut *out, b, freed as u64);
+            end(out, d)
         }
         Closing::Refused(r) => refused(out, at, r),
     }
@@ -90,8 +88,7 @@ pub(crate) fn target(out: &mut [u8; 4096], at: usize, t: Target) -> usize {
 
 fn record(out: &mut [u8; 4096], at: usize, r: Record) -> usize {
     let fields = r.fields;
-    let mut n = text(&mut *out, at, b"record");
-    n = number(&mut *out, n, r.payload as u64);
+    let mut n = valued(&mut *out, at, b"record", r.payload as u64);
     let mut i = 0;
     while i < 4 {
         let f = fields[i];

@@ -1,7 +1,7 @@
 // The digest of the lent words and bytes: h becomes 31 h + x + 1 modulo 4,294,967,291 at each x, from 7.
 use crate::out::end;
 use crate::out::number;
-use crate::out::text;
+use crate::out::valued;
 ghost use Prim.Native.Nat.{_<_};
 
 const MODULUS: u64 = 4294967291;
@@ -38,8 +38,7 @@ fn of_bytes(bytes: &[u8]) -> u64 {
 }
 
 pub(crate) fn digest(out: &mut [u8; 4096], at: usize, words: &[u32], bytes: &[u8]) -> usize {
-    let a = text(&mut *out, at, b"digest");
-    let b = number(&mut *out, a, of_words(words));
-    let c = number(&mut *out, b, of_bytes(bytes));
-    end(out, c)
+    let a = valued(&mut *out, at, b"digest", of_words(words));
+    let b = number(&mut *out, a, of_bytes(bytes));
+    end(out, b)
 }

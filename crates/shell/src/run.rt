@@ -1,19 +1,21 @@
 // The script, line by line.
+use crate::feed::first;
+use crate::feed::next;
+use crate::out::LOST;
 use crate::out::flush;
 use crate::out::space;
 use crate::say::say;
-use desk::Desk;
+use crate::start::begin;
+use desk::Said;
 use desk::step;
 use kinds::Operation;
 use kinds::Target;
 use scripts::command::parse;
 use scripts::order::Order;
 use scripts::order::order_of;
-use scripts::run::Run;
-use scripts::run::end_of;
 ghost use mathlib.Core.Path.{_≡_};
-ghost use Prim.Native.Nat.{_+_, _≤_, _<_};
 ghost use lib.ListN.{length};
+ghost use Rattle.shell.specs.Feed.{room};
 
 // The most words of an image, and the most bytes of a log buffer.
 fn words() -> [u32; 6181]
@@ -32,34 +34,76 @@ fn no_operations() -> [Operation; Operation::LIMIT] {
     [Operation::Root(0, Target::Nothing); Operation::LIMIT]
 }
 
-// Where the line that starts at a place ends.
-fn line_end(script: &[u8], at: usize) -> usize
-    requires { ⌜ at ≤ length (now script) ⌝ }
-    ensures { λ r. ⌜ (at ≤ r) × (r ≤ length (now (script .entry))) ⌝ }
-{
-    end_of(script, at, Run::Line)
+// What a line asks for.
+fn asked(line: &[u8]) -> Order {
+    order_of(parse(line))
 }
 
-// Where the next line starts.
-fn line_after(script: &[u8], end: usize) -> usize
-    requires { ⌜ end < length (now script) ⌝ }
-    ensures { λ r. ⌜ r ≡ end + 1 ⌝ }
-{
-    end + 1
+fn is_what(said: Said) -> bool {
+    if let Said::What = said {
+        return true;
+    }
+    false
 }
 
-// Every line of the script; answers how many bytes of output still wait.
-fn lines(script: &[u8], out: &mut [u8; 4096]) -> usize {
+// What waits goes out before the prompt of a terminal, and before the number of a line that is `what?`.
+fn settle(out: &[u8; 4096], at: usize, prompted: bool, what: bool) -> usize {
+    if prompted {
+        return flush(out, at);
+    }
+    if what {
+        return flush(out, at);
+    }
+    at
+}
+
+// Whether a line so far was `what?`. Where this one is, its number goes to standard error.
+fn noted(what: bool, line: usize, before: bool) -> bool {
+    if what {
+        io::write_all(2, b"what? ");
+        io::print_decimal(2, line as u64);
+        io::write_all(2, b"\n");
+        return true;
+    }
+    before
+}
+
+// The status: 2 where reading or writing failed, else 1 where a line was `what?`, else what the reading left.
+fn worst(read: u8, what: bool, put: usize) -> u8 {
+    if put == LOST {
+        return 2;
+    }
+    if read == 2 {
+        return 2;
+    }
+    if what {
+        return 1;
+    }
+    read
+}
+
+// Every line of the script; answers the status.
+fn lines(script: &mut [u8], out: &mut [u8; 4096]) -> u8
+    requires { ⌜ room ≡ length (now script) ⌝ }
+{
     let mut img = words();
     let mut log = bytes();
     let mut ops = no_operations();
-    let mut d = Desk::new();
+    let s = begin(&mut log);
+    if s.failed {
+        return 2;
+    }
+    let mut d = s.desk;
     let mut put = 0;
-    let mut at = 0;
-    while at < script.len() {
-        let end = line_end(script, at);
-        let o = order_of(parse(&script[at..end]));
-        let turn = step(o, &script[at..end], d, ops, &mut img, &mut log);
+    let mut line = 0;
+    let mut what = false;
+    let mut f = first(&mut *script);
+    while f.at < f.next {
+        let at = f.at;
+        let to = f.to;
+        let text = &script[at..to];
+        let o = asked(text);
+        let turn = step(o, text, d, ops, &mut img, &mut log);
         if let Order::Wait(x) = o {
             let k = d.waits;
             // Operations past the 32nd are counted and not kept.
@@ -69,18 +113,20 @@ fn lines(script: &[u8], out: &mut [u8; 4096]) -> usize {
         }
         d = turn.desk;
         let said = turn.said;
+        let odd = is_what(said);
+        line += 1;
         put = say(said, d, &img, &log, &mut *out, put);
-        if end == script.len() {
-            return put;
-        }
-        at = line_after(script, end);
+        put = settle(&*out, put, f.more, odd);
+        what = noted(odd, line, what);
+        f = next(&mut *script, f);
     }
-    put
+    worst(f.status, what, flush(&*out, put))
 }
 
-// The whole script, and all that it writes.
-pub(crate) fn run(script: &[u8]) {
+// The whole script, and all that it writes; answers the status.
+pub(crate) fn run(script: &mut [u8]) -> u8
+    requires { ⌜ room ≡ length (now script) ⌝ }
+{
     let mut out = space();
-    let put = lines(script, &mut out);
-    flush(&out, put);
+    lines(script, &mut out)
 }

@@ -8,21 +8,22 @@ use crate::answer::ok;
 use crate::answer::recovered;
 use crate::answer::what;
 use crate::digest::digest;
+use crate::help::help;
+use crate::out::LOST;
 use crate::out::flush;
+use crate::out::send_front;
 use crate::show::show;
 use desk::Desk;
 use desk::Said;
 use scripts::order::Look;
 ghost use Rattle.desk.specs.Desk.{Lent};
 
-// The first n bytes of the lent buffer, as they are.
-fn front(n: usize, log: &[u8], out: &mut [u8; 4096], at: usize) -> usize {
-    if log.len() < n {
-        return what(out, at);
+// The first n bytes of the lent buffer, as they are, after what waits.
+fn front(n: usize, log: &[u8], out: &[u8; 4096], at: usize) -> usize {
+    if flush(out, at) == LOST {
+        return LOST;
     }
-    flush(&*out, at);
-    io::write_all(1, &log[..n]);
-    0
+    send_front(log, n)
 }
 
 fn seen(l: Look, img: &[u32], log: &[u8], out: &mut [u8; 4096], at: usize) -> usize {
@@ -31,7 +32,8 @@ fn seen(l: Look, img: &[u32], log: &[u8], out: &mut [u8; 4096], at: usize) -> us
         Look::Ask(n) => asked(out, at, catalogue::ask(img, n)),
         Look::Digest => digest(out, at, img, log),
         Look::Show => show(out, at, img),
-        Look::Log(n) => front(n, log, out, at),
+        Look::Log(n) => front(n, log, &*out, at),
+        Look::Help => help(out, at),
     }
 }
 

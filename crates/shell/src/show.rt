@@ -1,10 +1,12 @@
 // The lent image for a person. It shows any words: of an image that is not sound it says so, and shows the words that are not 0.
+use crate::answer::counted;
 use crate::answer::target;
 use crate::out::byte;
 use crate::out::decimal;
 use crate::out::end;
 use crate::out::number;
 use crate::out::text;
+use crate::out::valued;
 use kinds::target_of;
 ghost use Prim.Native.Nat.{_+_, _≤_};
 ghost use lib.ListN.{length};
@@ -35,36 +37,43 @@ fn raw(out: &mut [u8; 4096], at: usize, words: &[u32]) -> usize {
 }
 
 fn raw_word(out: &mut [u8; 4096], at: usize, i: usize, v: u32) -> usize {
-    let a = text(&mut *out, at, b"word");
-    let b = number(&mut *out, a, i as u64);
-    let c = number(&mut *out, b, v as u64);
-    end(out, c)
+    let a = valued(&mut *out, at, b"word", i as u64);
+    let b = number(&mut *out, a, v as u64);
+    end(out, b)
 }
 
 fn head(out: &mut [u8; 4096], at: usize, words: &[u32]) -> usize {
-    let mut n = text(&mut *out, at, b"partitions");
-    n = number(&mut *out, n, word(words, 0) as u64);
-    n = text(&mut *out, n, b" slots");
-    n = number(&mut *out, n, word(words, 1) as u64);
-    n = end(&mut *out, n);
+    let a = valued(&mut *out, at, b"partitions", word(words, 0) as u64);
+    let b = valued(&mut *out, a, b" slots", word(words, 1) as u64);
+    end(out, b)
+}
+
+fn phase(out: &mut [u8; 4096], at: usize, words: &[u32]) -> usize {
     if word(words, image::PHASE) == 0 {
-        return text(out, n, b"phase shut\n");
+        return text(out, at, b"phase shut\n");
     }
-    n = text(&mut *out, n, b"phase open traces");
-    n = number(&mut *out, n, word(words, image::COUNT) as u64);
-    n = text(&mut *out, n, b" allowance");
-    n = number(&mut *out, n, word(words, image::ALLOWANCE) as u64);
-    end(out, n)
+    let a = valued(
+        &mut *out,
+        at,
+        b"phase open traces",
+        word(words, image::COUNT) as u64,
+    );
+    let b = valued(
+        &mut *out,
+        a,
+        b" allowance",
+        word(words, image::ALLOWANCE) as u64,
+    );
+    end(out, b)
 }
 
 fn root(out: &mut [u8; 4096], at: usize, r: usize, w: u32) -> usize {
     if w == 0 {
         return at;
     }
-    let a = text(&mut *out, at, b"root");
-    let b = number(&mut *out, a, r as u64);
-    let c = target(&mut *out, b, target_of(w));
-    end(out, c)
+    let a = valued(&mut *out, at, b"root", r as u64);
+    let b = target(&mut *out, a, target_of(w));
+    end(out, b)
 }
 
 fn roots(out: &mut [u8; 4096], at: usize, words: &[u32]) -> usize {
@@ -81,9 +90,7 @@ fn clean(out: &mut [u8; 4096], at: usize, p: usize, flag: u32) -> usize {
     if flag == 0 {
         return at;
     }
-    let a = text(&mut *out, at, b"clean");
-    let b = number(&mut *out, a, p as u64);
-    end(out, b)
+    counted(out, at, b"clean", p)
 }
 
 fn flags(out: &mut [u8; 4096], at: usize, words: &[u32]) -> usize {
@@ -133,11 +140,10 @@ fn object(out: &mut [u8; 4096], at: usize, words: &[u32], from: usize, p: usize,
     }
     let a = text(&mut *out, at, b"object ");
     let b = place(&mut *out, a, p, s);
-    let c = text(&mut *out, b, b" payload");
-    let d = number(&mut *out, c, wide(words[from + 1]));
-    let e = mark(&mut *out, d, state);
-    let f = fields(&mut *out, e, words, from);
-    end(out, f)
+    let c = valued(&mut *out, b, b" payload", wide(words[from + 1]));
+    let d = mark(&mut *out, c, state);
+    let e = fields(&mut *out, d, words, from);
+    end(out, e)
 }
 
 // Every object, in partition then slot order.
@@ -169,6 +175,7 @@ fn objects(out: &mut [u8; 4096], at: usize, words: &[u32]) -> usize {
 pub(crate) fn show(out: &mut [u8; 4096], at: usize, words: &[u32]) -> usize {
     if soundness::sound(words) {
         let mut n = head(&mut *out, at, words);
+        n = phase(&mut *out, n, words);
         n = roots(&mut *out, n, words);
         n = flags(&mut *out, n, words);
         return objects(out, n, words);

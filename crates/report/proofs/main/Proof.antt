@@ -1,8 +1,4 @@
 -- `report::main` meets its contract. Assumes nothing.
-use Rattle.reporting.proofs.Reporting.{done-fits}
-use lib.Seq.{length-take-le}
-use mathlib.Core.Path.{sym}
-use native.Mathlib.Omega.{arith}
 use borrow.Author.Needs.{needs}
 use Rattle.report.proofs.main.Statement.{statement}
 use Rattle.report.proofs.main.Tie as tie
@@ -10,41 +6,32 @@ use Rattle.report.proofs.main.Tie as tie
 log-space-requires : tie.Need-log-space-requires
 log-space-requires c κs = search needs
 
-slice-aggregate-read-full : tie.Need-slice-aggregate-read-full
-slice-aggregate-read-full c = search needs
+slice-aggregate-read-all : tie.Need-slice-aggregate-read-all
+slice-aggregate-read-all c = search needs
 
-read-full-requires : tie.Need-read-full-requires
-read-full-requires c κs = search needs
+read-all-requires : tie.Need-read-all-requires
+read-all-requires c κs = search needs
 
-text-space-requires : tie.Need-text-space-requires
-text-space-requires c κs = search needs
+enum-known-n : tie.Need-enum-known-n
+enum-known-n c = search needs
 
 array-share-prefix-log : tie.Need-array-share-prefix-log
-array-share-prefix-log c = search needs
+array-share-prefix-log c = (rw (c .before .n .given .1) at (c .before .before .before .before .read-all .ensures)) .0
 
-slice-aggregate-report : tie.Need-slice-aggregate-report
-slice-aggregate-report c = search needs
+slice-aggregate-tell : tie.Need-slice-aggregate-tell
+slice-aggregate-tell c = (rw (c .before .before .n .given .1) at (c .before .before .before .before .before .read-all .ensures)) .1
 
-slice-aggregate-report-2 : tie.Need-slice-aggregate-report-2
-slice-aggregate-report-2 c = search needs
-
-report-requires : tie.Need-report-requires
-report-requires c κs = search needs
-
-enum-known-k : tie.Need-enum-known-k
-enum-known-k c = search needs
-
-array-share-prefix-text : tie.Need-array-share-prefix-text
-array-share-prefix-text c = omega (arith, done-fits _ _ _ _ (c .before .k .given .0 .0) (c .before .before .before .before .report .ensures) (c .before .k .given .1), c .before .before .before .before .report .kept .1 .0, c .before .before .before .before .before .before .before .text-space .ensures)
-
-slice-aggregate-write-all : tie.Need-slice-aggregate-write-all
-slice-aggregate-write-all c = sym (length-take-le (c .before .before .k .given .0 .0) _ (omega (arith, done-fits _ _ _ _ (c .before .before .k .given .0 .0) (c .before .before .before .before .before .report .ensures) (c .before .before .k .given .1), c .before .before .before .before .before .report .kept .1 .0, c .before .before .before .before .before .before .before .before .text-space .ensures)))
-
-write-all-requires : tie.Need-write-all-requires
-write-all-requires c κs = search needs
+tell-requires : tie.Need-tell-requires
+tell-requires c κs = search needs
 
 enum-told : tie.Need-enum-told
 enum-told c = search needs
+
+slice-aggregate-fail : tie.Need-slice-aggregate-fail
+slice-aggregate-fail c = search needs
+
+fail-requires : tie.Need-fail-requires
+fail-requires c κs = search needs
 
 returns : tie.Need-returns
 returns c = search needs
@@ -57,17 +44,14 @@ main-spec =
     tie.close
     (tie.spec
     log-space-requires
-    slice-aggregate-read-full
-    read-full-requires
-    text-space-requires
+    slice-aggregate-read-all
+    read-all-requires
+    enum-known-n
     array-share-prefix-log
-    slice-aggregate-report
-    slice-aggregate-report-2
-    report-requires
-    enum-known-k
-    array-share-prefix-text
-    slice-aggregate-write-all
-    write-all-requires
+    slice-aggregate-tell
+    tell-requires
     enum-told
+    slice-aggregate-fail
+    fail-requires
     returns
     returns-2)

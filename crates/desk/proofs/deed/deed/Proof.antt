@@ -52,6 +52,9 @@ recover-requires c κs = search needs
 enum-known-x-8 : tie.Need-enum-known-x-8
 enum-known-x-8 c = search needs
 
+seen-requires : tie.Need-seen-requires
+seen-requires c κs = search needs
+
 same-length : tie.Need-same-length
 same-length c = search needs
 
@@ -113,7 +116,7 @@ returns-7 : tie.Need-returns-7
 returns-7 c = rw (c .before .before .before .before .before .before .x7 .given .1) (c .before .before .recover .ensures)
 
 returns-8 : tie.Need-returns-8
-returns-8 c = rw (c .before .x8 .given .1)
+returns-8 c = rw (c .before .before .x8 .given .1, c .seen .ensures)
 
 pub deed-spec : {M : Type 1} → statement M
 deed-spec =
@@ -134,6 +137,7 @@ deed-spec =
     enum-known-x-7
     recover-requires
     enum-known-x-8
+    seen-requires
     same-length
     returns
     same-length-2

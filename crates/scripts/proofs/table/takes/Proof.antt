@@ -4,7 +4,7 @@ use mathlib.Core.Path.{refl, sym}
 use mathlib.Core.List.{List, [], _∷_}
 use Rattle.lines.specs.Words.{code, isIn, newText, setText, clrText, valText, rootText, unrootText, openText, traceText, closeText}
 use Rattle.lines.proofs.Table.{in-arms}
-use Rattle.scripts.specs.Table.{rows, takes, imageText, wordText, bufferText, formatText, commitText, readText, askText, recoverText, digestText, showText, logText}
+use Rattle.scripts.specs.Table.{rows, takes, imageText, wordText, bufferText, formatText, commitText, readText, askText, recoverText, digestText, showText, logText, helpText}
 use Rattle.scripts.proofs.Rows.{keys, takes-none, takes-one}
 use Rattle.scripts.proofs.table.takes.Statement.{statement}
 use Rattle.scripts.proofs.table.takes.Tie as tie
@@ -17,7 +17,7 @@ coded (t ∷ ts) = code 0 t ∷ coded ts
 -- the arms' keys: those that take 0, 1, 2, 3 and 5 numbers
 abbrev arm0 : List ℕ
 unfolding code
-arm0 = coded (showText ∷ digestText ∷ [])
+arm0 = coded (helpText ∷ showText ∷ digestText ∷ [])
 
 abbrev arm1 : List ℕ
 unfolding code

@@ -10,17 +10,14 @@ Inv-loop out₀ at fields n₀ i₀ out n i = i ≤ 4
 abbrev μ-loop : tie.MeasureT-loop
 μ-loop out₀ at fields n₀ i₀ out n i = 4 - i
 
-slice-aggregate-text : tie.Need-slice-aggregate-text Inv-loop μ-loop
-slice-aggregate-text c = search needs
+slice-aggregate-valued : tie.Need-slice-aggregate-valued Inv-loop μ-loop
+slice-aggregate-valued c = search needs
 
-text-requires : tie.Need-text-requires Inv-loop μ-loop
-text-requires c κs = search needs
+cast-valued : tie.Need-cast-valued Inv-loop μ-loop
+cast-valued c = search needs
 
-cast-number : tie.Need-cast-number Inv-loop μ-loop
-cast-number c = search needs
-
-number-requires : tie.Need-number-requires Inv-loop μ-loop
-number-requires c κs = search needs
+valued-requires : tie.Need-valued-requires Inv-loop μ-loop
+valued-requires c κs = search needs
 
 loop-holds : tie.Need-loop-holds Inv-loop μ-loop
 loop-holds c = search needs
@@ -55,10 +52,9 @@ record-spec =
     (tie.spec
     Inv-loop
     μ-loop
-    slice-aggregate-text
-    text-requires
-    cast-number
-    number-requires
+    slice-aggregate-valued
+    cast-valued
+    valued-requires
     loop-holds
     mul-f
     array-copy-out-f

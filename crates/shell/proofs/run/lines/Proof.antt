@@ -1,5 +1,4 @@
--- `shell::run::lines` meets its contract. Assumes nothing.
-use lib.ListN.{length}
+-- `shell::run::lines` meets its contract. Each turn plays a line, and the next one starts after it. Assumes nothing.
 use Prim.Native.Nat.{_-_}
 use Rattle.shell.proofs.Held.{Held, held-first, lent-next, held-next}
 use borrow.Author.Needs.{needs}
@@ -7,10 +6,10 @@ use Rattle.shell.proofs.run.lines.Statement.{statement}
 use Rattle.shell.proofs.run.lines.Tie as tie
 
 abbrev Inv-loop : tie.InvT-loop
-Inv-loop script out₀ img₀ log₀ ops₀ d₀ put₀ at₀ out img log ops d put at = Held d img log at
+Inv-loop script₀ out₀ img₀ log₀ ops₀ d₀ put₀ line₀ what₀ f₀ script out img log ops d put line what f = Held d img log script f line
 
 abbrev μ-loop : tie.MeasureT-loop
-μ-loop script out₀ img₀ log₀ ops₀ d₀ put₀ at₀ out img log ops d put at = length script - at
+μ-loop script₀ out₀ img₀ log₀ ops₀ d₀ put₀ line₀ what₀ f₀ script out img log ops d put line what f = 1048578 - f .at
 
 words-requires : tie.Need-words-requires Inv-loop μ-loop
 words-requires c κs = search needs
@@ -21,47 +20,41 @@ bytes-requires c κs = search needs
 no-operations-requires : tie.Need-no-operations-requires Inv-loop μ-loop
 no-operations-requires c κs = search needs
 
-new-requires : tie.Need-new-requires Inv-loop μ-loop
-new-requires c κs = search needs
+slice-aggregate-begin : tie.Need-slice-aggregate-begin Inv-loop μ-loop
+slice-aggregate-begin c = c .before .before .bytes .ensures
+
+begin-requires : tie.Need-begin-requires Inv-loop μ-loop
+begin-requires c κs = search needs
+
+returns : tie.Need-returns Inv-loop μ-loop
+returns c = search needs
+
+first-requires : tie.Need-first-requires Inv-loop μ-loop
+first-requires c κs = search needs
 
 loop-holds : tie.Need-loop-holds Inv-loop μ-loop
-loop-holds c = held-first _ _ _ (c .before .before .before .words .ensures) (c .before .before .bytes .ensures) (c .new .ensures)
+loop-holds c = held-first _ _ _ _ _ (c .before .before .before .before .before .before .before .before .before .before .before .words .ensures) (search (needs, c .before .before .before .before .before .before .before .before .before .before .bytes .ensures, c .before .before .before .before .before .before .before .begin .kept)) (search (needs, c .before .before .first .kept, c .before .before .before .before .before .before .before .before .before .before .before .before .before .pre)) (c .before .before .before .before .before .before .before .begin .ensures) (c .before .before .first .ensures .1)
 
-line-end-requires : tie.Need-line-end-requires Inv-loop μ-loop
-line-end-requires c κs = search needs
+sub-text : tie.Need-sub-text Inv-loop μ-loop
+sub-text c = let h = c .before .before .loop .inv in search (needs, h .fed)
 
-sub-parse : tie.Need-sub-parse Inv-loop μ-loop
-sub-parse c = search needs
+part-text-start : tie.Need-part-text-start Inv-loop μ-loop
+part-text-start c = let h = c .before .before .before .loop .inv in search (needs, h .fed)
 
-part-parse-start : tie.Need-part-parse-start Inv-loop μ-loop
-part-parse-start c = search needs
+part-text-end : tie.Need-part-text-end Inv-loop μ-loop
+part-text-end c = let h = c .before .before .before .loop .inv in search (needs, h .fed, h .space)
 
-part-parse-end : tie.Need-part-parse-end Inv-loop μ-loop
-part-parse-end c = search needs
-
-parse-requires : tie.Need-parse-requires Inv-loop μ-loop
-parse-requires c κs = search needs
-
-order-of-requires : tie.Need-order-of-requires Inv-loop μ-loop
-order-of-requires c κs = search needs
-
-sub-step : tie.Need-sub-step Inv-loop μ-loop
-sub-step c = search needs
-
-part-step-start : tie.Need-part-step-start Inv-loop μ-loop
-part-step-start c = search needs
-
-part-step-end : tie.Need-part-step-end Inv-loop μ-loop
-part-step-end c = search needs
+asked-requires : tie.Need-asked-requires Inv-loop μ-loop
+asked-requires c κs = search needs
 
 slice-aggregate-step : tie.Need-slice-aggregate-step Inv-loop μ-loop
-slice-aggregate-step c = c .before .before .before .before .before .before .before .loop .inv .words
+slice-aggregate-step c = c .before .before .before .before .before .before .loop .inv .words
 
 slice-aggregate-step-2 : tie.Need-slice-aggregate-step-2 Inv-loop μ-loop
-slice-aggregate-step-2 c = c .before .before .before .before .before .before .before .before .loop .inv .bytes
+slice-aggregate-step-2 c = c .before .before .before .before .before .before .before .loop .inv .bytes
 
 step-requires : tie.Need-step-requires Inv-loop μ-loop
-step-requires c κs = let h = c .before .before .before .before .before .before .before .before .loop .inv in search (needs, h)
+step-requires c κs = let h = c .before .before .before .before .before .before .before .loop .inv in search (needs, h, h .fed)
 
 enum-known-o : tie.Need-enum-known-o Inv-loop μ-loop
 enum-known-o c = search needs
@@ -72,20 +65,38 @@ mul-ops c = search needs
 array-set-from-ops : tie.Need-array-set-from-ops Inv-loop μ-loop
 array-set-from-ops c = search needs
 
+is-what-requires : tie.Need-is-what-requires Inv-loop μ-loop
+is-what-requires c κs = search needs
+
+add-line : tie.Need-add-line Inv-loop μ-loop
+add-line c = let h = c .before .before .before .before .before .before .before .before .before .before .before .before .before .loop .inv in search (needs, h, h .fed)
+
 say-requires : tie.Need-say-requires Inv-loop μ-loop
-say-requires c κs = lent-next _ _ _ _ (c .before .before .before .before .before .before .before .before .before .before .before .before .before .before .before .before .loop .inv) _ _ _ _ _ _ (c .before .before .before .before .before .before .before .step .ensures) (search needs) (search needs)
+say-requires c κs = lent-next _ _ _ _ _ _ (c .before .before .before .before .before .before .before .before .before .before .before .before .before .before .before .before .loop .inv) _ _ _ _ _ _ (c .before .before .before .before .before .before .before .before .step .ensures) (search needs) (search needs)
 
-returns : tie.Need-returns Inv-loop μ-loop
-returns c = search needs
+settle-requires : tie.Need-settle-requires Inv-loop μ-loop
+settle-requires c κs = search needs
 
-line-after-requires : tie.Need-line-after-requires Inv-loop μ-loop
-line-after-requires c κs = let e = c .before .before .before .before .before .before .before .before .before .before .before .before .before .before .before .before .line-end .ensures in let n = c .if2 .left in search (needs, e, n)
+noted-requires : tie.Need-noted-requires Inv-loop μ-loop
+noted-requires c κs = search needs
+
+next-requires : tie.Need-next-requires Inv-loop μ-loop
+next-requires c κs = let h = c .before .before .before .before .before .before .before .before .before .before .before .before .before .before .before .before .before .before .before .before .before .loop .inv in (h .fed, h .space)
 
 loop-less : tie.Need-loop-less Inv-loop μ-loop
-loop-less c = search needs
+loop-less c = let h = c .before .before .before .before .before .before .before .before .before .before .before .before .before .before .before .before .before .before .before .before .before .before .before .before .loop .inv in search (needs, h .fed, c .before .before .before .before .before .before .before .before .before .before .before .before .before .before .before .before .before .before .before .before .before .before .if2, c .before .before .next .ensures)
 
 loop-again : tie.Need-loop-again Inv-loop μ-loop
-loop-again c = held-next _ _ _ _ (c .before .before .before .before .before .before .before .before .before .before .before .before .before .before .before .before .before .before .before .loop .inv) _ _ _ _ _ _ (c .before .before .before .before .before .before .before .before .before .before .step .ensures) (search needs) (search needs) _ (search needs)
+loop-again c = let h = c .before .before .before .before .before .before .before .before .before .before .before .before .before .before .before .before .before .before .before .before .before .before .before .before .loop .inv in held-next _ _ _ _ _ _ h _ _ _ _ _ _ (c .before .before .before .before .before .before .before .before .before .before .before .before .before .before .before .before .step .ensures) (search needs) (search needs) _ _ (search (needs, h .space, c .before .before .next .kept)) (c .before .before .before .before .before .before .before .before .before .before .before .before .before .before .before .before .before .before .before .before .before .before .if2 .taken) (c .before .before .next .ensures)
+
+flush-requires : tie.Need-flush-requires Inv-loop μ-loop
+flush-requires c κs = search needs
+
+worst-requires : tie.Need-worst-requires Inv-loop μ-loop
+worst-requires c κs = search needs
+
+same-length : tie.Need-same-length Inv-loop μ-loop
+same-length c = let h = c .before .before .before .before .before .loop .inv in search (needs, h .space)
 
 returns-2 : tie.Need-returns-2 Inv-loop μ-loop
 returns-2 c = search needs
@@ -99,26 +110,30 @@ lines-spec =
     words-requires
     bytes-requires
     no-operations-requires
-    new-requires
+    slice-aggregate-begin
+    begin-requires
+    returns
+    first-requires
     loop-holds
-    line-end-requires
-    sub-parse
-    part-parse-start
-    part-parse-end
-    parse-requires
-    order-of-requires
-    sub-step
-    part-step-start
-    part-step-end
+    sub-text
+    part-text-start
+    part-text-end
+    asked-requires
     slice-aggregate-step
     slice-aggregate-step-2
     step-requires
     enum-known-o
     mul-ops
     array-set-from-ops
+    is-what-requires
+    add-line
     say-requires
-    returns
-    line-after-requires
+    settle-requires
+    noted-requires
+    next-requires
     loop-less
     loop-again
+    flush-requires
+    worst-requires
+    same-length
     returns-2)

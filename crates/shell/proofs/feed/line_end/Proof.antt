@@ -1,8 +1,8 @@
--- `shell::run::line_end` meets its contract. Assumes nothing.
+-- `shell::feed::line_end` meets its contract. Assumes nothing.
 use Rattle.scripts.proofs.Ends.{end-after, end-within}
 use borrow.Author.Needs.{needs}
-use Rattle.shell.proofs.run.line_end.Statement.{statement}
-use Rattle.shell.proofs.run.line_end.Tie as tie
+use Rattle.shell.proofs.feed.line_end.Statement.{statement}
+use Rattle.shell.proofs.feed.line_end.Tie as tie
 
 end-of-requires : tie.Need-end-of-requires
 end-of-requires c κs = search needs

@@ -1,18 +1,19 @@
--- Which numbers a refusal can have: 2 of format, 6 to 16 of an act, 7 to 9 of a name; 1 and 17 are the call's. None is 0, so that number 0 is acceptance.
+-- Which numbers a refusal can have: 2 of format, 6 to 16 of an act, 7 to 9 of a name; 1, 3, 4, 5 and 17 are the calls' and recovery's. None is 0, so that number 0 is acceptance.
 -- Assumes nothing.
 use Prim.Native.Nat.{ℕ, _+_, _≤_}
 use mathlib.Core.Bool.{Bool, true, false}
 use mathlib.Core.List.{List, [], _∷_}
 use native.Mathlib.Omega.{arith}
+use Rattle.kinds.specs.Answers.{refuse}
 use Rattle.kinds.specs.declared.Name.{Name}
 use Rattle.kinds.specs.declared.Operation.{Operation}
 use Rattle.kinds.specs.declared.Operation.the-variants.{New, Set, Val, Root}
 use Rattle.kinds.specs.declared.Refusal.{Refusal}
 use Rattle.kinds.specs.declared.Verdict.{Verdict}
 use Rattle.kinds.specs.declared.Verdict.the-variants.{Accepted, Refused}
 use Rattle.model.specs.Image.{Image}
 use Rattle.model.specs.Acts.{Act, commit, opening, closing, trace, perform}
 use Rattle.model.specs.Judge.{check, andThen, judge, judgeOp, judgeOps, judgeFormat, judgeName}
 
 -- accepted, or refused with a number from lo to hi
 pub data Among (lo hi : ℕ) : Verdict → Type 0 where
@@ -33,6 +34,9 @@ module _ {lo hi : ℕ} where
   pub among-wider : (low high : ℕ) (v : Verdict) → low ≤ lo → hi ≤ high → Among lo hi v → Among low high v
   among-wider low high Accepted l h accepted = accepted
   among-wider low high (Refused _) l h (numbered r a b) = numbered r (omega arith) (omega arith)
+
+  pub among-number : {k e : ℕ} → Among lo hi (refuse k e) → (lo ≤ k) × (k ≤ hi)
+  among-number (numbered r a b) = (a, b)
 
 op-among : (P S : ℕ) (x : Image) (e : ℕ) (o : Operation) → Among 7 9 (judgeOp P S x e o)
 unfolding judgeOp

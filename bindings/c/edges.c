@@ -1,0 +1,82 @@
+/* What only C can do: zeroed operations, words and places of any kind. Prints each check that fails; its status is 0 where none does. */
+#include "heidrunok.h"
+#include <stdio.h>
+#include <string.h>
+
+#define WORDS HEIDRUNOK_WORDS(2, 4)
+#define CHECK(fact) ((fact) ? (void)0 : (failed++, (void)printf("edges.c:%d: %s\n", __LINE__, #fact)))
+
+static int failed;
+static uint32_t img[WORDS], was[WORDS];
+static uint8_t log_buffer[200], log_was[200];
+
+static void keep(void) {
+    memcpy(was, img, sizeof img);
+    memcpy(log_was, log_buffer, sizeof log_buffer);
+}
+
+static bool kept(void) {
+    return memcmp(was, img, sizeof img) == 0 && memcmp(log_was, log_buffer, sizeof log_buffer) == 0;
+}
+
+/* A refused commit of these operations: its number and its extra answer, nothing changed, no length. */
+static bool refuses(const heidrunok_operation *ops, size_t n, uint32_t number, size_t position) {
+    size_t length = 99, extra = 99;
+    keep();
+    return heidrunok_commit(img, WORDS, ops, n, log_buffer, sizeof log_buffer, 11, &length, &extra) == number && extra == position && length == 0 && kept();
+}
+
+static void operations(void) {
+    heidrunok_operation ops[2] = {heidrunok_new(0, 0, 1), heidrunok_new(0, 1, 2)};
+    CHECK(refuses(ops, 0, 6, 0));
+    memset(&ops[1], 0, sizeof ops[1]);
+    CHECK(refuses(ops, 2, 7, 2));
+    ops[0].kind = 7;
+    CHECK(refuses(ops, 1, 7, 1));
+    ops[0].kind = UINT32_MAX;
+    CHECK(refuses(ops, 1, 7, 1));
+    ops[0] = heidrunok_new(0, 0, 1);
+    ops[1] = heidrunok_root(UINT32_MAX, UINT32_MAX, UINT32_MAX);
+    CHECK(refuses(ops, 2, 7, 2));
+}
+
+static void places(void) {
+    size_t length = 99, extra = 99, ats[] = {sizeof log_buffer, sizeof log_buffer + 1, SIZE_MAX};
+    heidrunok_operation op = heidrunok_new(0, 0, 1);
+    for (size_t i = 0; i < sizeof ats / sizeof *ats; i++) {
+        keep();
+        CHECK(heidrunok_commit(img, WORDS, &op, 1, log_buffer, sizeof log_buffer, ats[i], &length, &extra) == 17 && length == 0 && kept());
+    }
+    CHECK(heidrunok_commit(img, WORDS - 1, &op, 1, log_buffer, sizeof log_buffer, 11, &length, &extra) == 1);
+    CHECK(heidrunok_format(img, WORDS - 1, 2, 4, log_buffer, sizeof log_buffer, 11, &length, &extra) == 2 && kept());
+}
+
+/* Words of no sound image: every call but format and recover says 1, and the questions answer zeros. */
+static void unsound(void) {
+    size_t length = 99, extra = 99, freed = 99;
+    uint32_t traces = 99, payload = 99, fields[4] = {9, 9, 9, 9};
+    const uint32_t zeros[4] = {0, 0, 0, 0};
+    bool yes = true;
+    heidrunok_operation op = heidrunok_new(0, 0, 1);
+    memset(img, 0xff, sizeof img);
+    CHECK(refuses(&op, 1, 1, 0));
+    CHECK(heidrunok_open(img, WORDS, log_buffer, sizeof log_buffer, 11, &length, &extra) == 1 && length == 0 && extra == 0);
+    CHECK(heidrunok_trace(img, WORDS, 0, log_buffer, sizeof log_buffer, 11, &length, &extra) == 1 && length == 0 && extra == 0);
+    CHECK(heidrunok_close(img, WORDS, log_buffer, sizeof log_buffer, 11, &length, &traces, &freed, &extra) == 1 && traces == 0 && freed == 0);
+    CHECK(heidrunok_read(img, WORDS, 0, 0, &payload, fields) == 1 && payload == 0 && memcmp(fields, zeros, sizeof fields) == 0);
+    CHECK(heidrunok_ask(img, WORDS, 0, 0, &yes) == 1 && !yes);
+    CHECK(kept());
+    CHECK(heidrunok_recover(img, WORDS, log_buffer, 0, &length, &extra) == 3 && length == 0 && extra == 1);
+    memset(was, 0, sizeof was);
+    CHECK(kept());
+}
+
+int main(void) {
+    size_t length, extra;
+    CHECK(sizeof(heidrunok_operation) == 6 * sizeof(uint32_t));
+    CHECK(heidrunok_format(img, WORDS, 2, 4, log_buffer, sizeof log_buffer, 0, &length, &extra) == 0 && length == 11);
+    operations();
+    places();
+    unsound();
+    return failed != 0;
+}

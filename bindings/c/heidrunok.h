@@ -1,0 +1,106 @@
+/* The proved backup catalogue, for C99 and C++: link libheidrunok.a (`rt staticlib heidrunok`; bindings/README.md).
+ *
+ * Every call returns 0 where it is accepted, else the number of the refusal (1 to 17; heidrunok_refusal says it in words), and writes what it
+ * answers through its last pointers. Refused, it writes zeros there, but for *extra: the position of the operation, counted from 1 (commit: 7,
+ * 8, 9), or the lowest partition that is not clean (close: 14), else 0; recovery says the line. A refused call leaves image and log as they
+ * were; a refused recovery leaves zeros in the image.
+ *
+ * A call that is logged writes its record into the log buffer from byte `at` on and answers the record's length: store these bytes, and make
+ * the next such call at at + length.
+ *
+ * What the caller owes, since C can't say it: no pointer is NULL, also with length 0; img has `words` words, log `bytes` bytes and ops n
+ * operations; what the pointers of one call name does not overlap; no other thread touches it during the call. Nothing else: any words, any
+ * bytes, any numbers.
+ */
+#ifndef HEIDRUNOK_H
+#define HEIDRUNOK_H
+#include <stdbool.h>
+#include <stddef.h>
+#include <stdint.h>
+
+#ifdef __cplusplus
+extern "C" {
+#endif
+
+/* How many words an image of P partitions (1 to 16) of S slots (1 to 64) has. */
+#define HEIDRUNOK_WORDS(P, S) (37 + 6 * (size_t)(P) * (size_t)(S))
+/* The most operations of one commit. */
+#define HEIDRUNOK_OPERATIONS 32
+
+/* Made by the six functions below. Zeroed memory is no operation, and is refused with 7. */
+typedef struct {
+    uint32_t kind, a, b, c, d, e;
+} heidrunok_operation;
+
+static inline heidrunok_operation heidrunok_new(uint32_t p, uint32_t s, uint32_t payload) {
+    heidrunok_operation o = {1, p, s, payload, 0, 0};
+    return o;
+}
+/* field f of the object (p, s) refers to the object (q, t) */
+static inline heidrunok_operation heidrunok_set(uint32_t p, uint32_t s, uint32_t f, uint32_t q, uint32_t t) {
+    heidrunok_operation o = {2, p, s, f, q, t};
+    return o;
+}
+static inline heidrunok_operation heidrunok_clr(uint32_t p, uint32_t s, uint32_t f) {
+    heidrunok_operation o = {3, p, s, f, 0, 0};
+    return o;
+}
+static inline heidrunok_operation heidrunok_val(uint32_t p, uint32_t s, uint32_t payload) {
+    heidrunok_operation o = {4, p, s, payload, 0, 0};
+    return o;
+}
+/* root r names the object (q, t) */
+static inline heidrunok_operation heidrunok_root(uint32_t r, uint32_t q, uint32_t t) {
+    heidrunok_operation o = {5, r, q, t, 0, 0};
+    return o;
+}
+static inline heidrunok_operation heidrunok_unroot(uint32_t r) {
+    heidrunok_operation o = {6, r, 0, 0, 0, 0};
+    return o;
+}
+
+uint32_t heidrunok_format(uint32_t *img, size_t words, uint32_t partitions, uint32_t slots, uint8_t *log, size_t bytes, size_t at,
+                          size_t *length, size_t *extra);
+uint32_t heidrunok_commit(uint32_t *img, size_t words, const heidrunok_operation *ops, size_t n, uint8_t *log, size_t bytes, size_t at,
+                          size_t *length, size_t *extra);
+uint32_t heidrunok_open(uint32_t *img, size_t words, uint8_t *log, size_t bytes, size_t at, size_t *length, size_t *extra);
+uint32_t heidrunok_trace(uint32_t *img, size_t words, uint32_t partition, uint8_t *log, size_t bytes, size_t at, size_t *length,
+                         size_t *extra);
+/* also answers the traces counted and the number of objects freed */
+uint32_t heidrunok_close(uint32_t *img, size_t words, uint8_t *log, size_t bytes, size_t at, size_t *length, uint32_t *traces,
+                         size_t *freed, size_t *extra);
+/* the kept length, where the log is to be cut and the next record goes; refused, the line */
+uint32_t heidrunok_recover(uint32_t *img, size_t words, const uint8_t *log, size_t bytes, size_t *kept, size_t *line);
+/* fields[k] is 0 for nothing, or 64 q + t + 1 for the object (q, t) */
+uint32_t heidrunok_read(const uint32_t *img, size_t words, uint32_t p, uint32_t s, uint32_t *payload, uint32_t fields[4]);
+/* whether a root leads to the object (p, s) */
+uint32_t heidrunok_ask(const uint32_t *img, size_t words, uint32_t p, uint32_t s, bool *yes);
+
+static inline const char *heidrunok_refusal(uint32_t number) {
+    static const char *const words[] = {
+        "accepted",
+        "the image is not sound",
+        "partitions or slots out of range, or the image's length is not 37 + 6 P S",
+        "the first line is not a heading of edition 1, or there is none",
+        "a line without a shape, or over 20 bytes",
+        "a heading again, a collector line within a transaction, or an end without operations",
+        "no operation or more than 32, or the end's number is wrong",
+        "a partition, slot, field or root number is too large",
+        "the slot is in use",
+        "the object is not in use",
+        "no phase is open",
+        "a phase is open already",
+        "no root is in use",
+        "the partition is clean",
+        "a partition is not clean",
+        "the traces equal the allowance",
+        "a root or a marked object refers to an unmarked one",
+        "the record does not fit from that place",
+    };
+    return number < sizeof words / sizeof *words ? words[number] : "no such refusal";
+}
+
+#ifdef __cplusplus
+}
+#endif
+#endif

@@ -1,0 +1,206 @@
+//! Every call by its answers, and every stored log of the repository.
+use std::fmt::Write as _;
+use std::{fs, path::Path};
+
+use heidrunok::{words, words_for, Catalogue, Field, Name, Operation, Partition, Place, Refusal, Refused, Root};
+
+fn n(p: u32, s: u32) -> Name {
+    Name::new(p, s)
+}
+
+fn chain() -> [Operation; 6] {
+    [
+        Operation::New(n(0, 0), 10),
+        Operation::New(n(1, 0), 20),
+        Operation::New(n(0, 1), 30),
+        Operation::Set(n(0, 0), Field(0), Some(n(1, 0))),
+        Operation::Set(n(1, 0), Field(0), Some(n(0, 1))),
+        Operation::Root(Root(0), Some(n(0, 0))),
+    ]
+}
+
+fn at(refused: Refused) -> (u32, Place) {
+    (refused.refusal.number(), refused.place)
+}
+
+#[test]
+fn records_are_the_bytes_of_the_log() -> Result<(), Refused> {
+    let (mut image, mut log) = (vec![0; words(2, 4)], vec![b'.'; 400]);
+    let mut c = Catalogue::format(&mut image, &mut log, 2, 4)?;
+    let mut disk = c.log().to_vec();
+    disk.extend_from_slice(c.commit(&chain())?);
+    disk.extend_from_slice(c.commit(&[Operation::New(n(1, 1), 40), Operation::Val(n(0, 1), 31)])?);
+    disk.extend_from_slice(c.commit(&[Operation::Set(n(0, 0), Field(3), None), Operation::Root(Root(15), None)])?);
+    disk.extend_from_slice(c.open()?);
+    for p in [1, 0, 1, 0] {
+        disk.extend_from_slice(c.trace(Partition(p))?);
+    }
+    let closed = c.close()?;
+    disk.extend_from_slice(closed.record);
+    assert_eq!((closed.traces, closed.freed), (4, 1));
+    assert_eq!(disk, c.log());
+    let text = "heap\t1\t2\t4\nnew\t0\t0\t10\nnew\t1\t0\t20\nnew\t0\t1\t30\nset\t0\t0\t0\t1\t0\nset\t1\t0\t0\t0\t1\n\
+        root\t0\t0\t0\nend\t6\nnew\t1\t1\t40\nval\t0\t1\t31\nend\t2\nclr\t0\t0\t3\nunroot\t15\nend\t2\nopen\n\
+        trace\t1\ntrace\t0\ntrace\t1\ntrace\t0\nclose\n";
+    assert_eq!(String::from_utf8_lossy(&disk), text);
+    Ok(())
+}
+
+#[test]
+fn every_cut_recovers_and_goes_on() -> Result<(), Refused> {
+    let (mut image, mut log) = (vec![0; words(2, 4)], vec![b'.'; 400]);
+    let mut c = Catalogue::format(&mut image, &mut log, 2, 4)?;
+    c.commit(&chain())?;
+    let bytes = c.log().to_vec();
+    for cut in 11..=bytes.len() {
+        let (mut image, mut log) = (vec![7; words(2, 4)], vec![b'.'; 400]);
+        log[..cut].copy_from_slice(&bytes[..cut]);
+        let mut c = Catalogue::recover(&mut image, &mut log, cut)?;
+        let kept = if cut < bytes.len() { 11 } else { bytes.len() };
+        assert_eq!(c.log(), &bytes[..kept]);
+        assert_eq!(c.commit(&[Operation::New(n(1, 3), 1)])?.len(), 16);
+    }
+    Ok(())
+}
+
+#[test]
+fn questions() -> Result<(), Refused> {
+    let (mut image, mut log) = (vec![0; words(2, 4)], vec![b'.'; 400]);
+    let mut c = Catalogue::format(&mut image, &mut log, 2, 4)?;
+    c.commit(&chain())?;
+    c.commit(&[Operation::New(n(1, 3), u32::MAX), Operation::Set(n(1, 3), Field(2), Some(n(1, 3)))])?;
+    let object = c.read(n(1, 3))?;
+    assert_eq!((object.payload, object.fields), (u32::MAX, [None, None, Some(n(1, 3)), None]));
+    assert_eq!((c.ask(n(0, 1)), c.ask(n(1, 3))), (Ok(true), Ok(false)));
+    assert_eq!(at(c.read(n(2, 0)).unwrap_err()), (7, Place::Call));
+    assert_eq!(at(c.ask(n(1, 1)).unwrap_err()), (9, Place::Call));
+    let names: Vec<Name> = c.objects().map(|(name, _)| name).collect();
+    assert_eq!(names, [n(0, 0), n(0, 1), n(1, 0), n(1, 3)]);
+    assert_eq!((c.partitions(), c.slots(), c.phase_is_open()), (2, 4, false));
+    Ok(())
+}
+
+#[test]
+fn refusals_change_nothing_and_say_where() -> Result<(), Refused> {
+    let (mut image, mut log) = (vec![0; words(2, 4)], vec![b'.'; 90]);
+    let mut c = Catalogue::format(&mut image, &mut log, 2, 4)?;
+    assert_eq!(at(c.open().unwrap_err()), (12, Place::Call));
+    c.commit(&chain())?;
+    let before = (c.image().to_vec(), c.log().to_vec());
+    let fresh = Operation::New(n(1, 1), 1);
+    let late = [fresh, Operation::Val(n(1, 2), 1)];
+    let cases: [(&[Operation], (u32, Place)); 9] = [
+        (&[], (6, Place::Call)),
+        (&[fresh; 33], (6, Place::Call)),
+        (&[fresh; 40], (6, Place::Call)),
+        (&[fresh; 32], (8, Place::Operation(2))),
+        (&[Operation::Root(Root(16), None)], (7, Place::Operation(1))),
+        (&[Operation::Set(n(0, 0), Field(4), None)], (7, Place::Operation(1))),
+        (&[Operation::Set(n(0, 0), Field(0), Some(n(0, 4)))], (7, Place::Operation(1))),
+        (&late, (9, Place::Operation(2))),
+        (&[fresh], (17, Place::Call)),
+    ];
+    for (operations, refused) in cases {
+        assert_eq!(at(c.commit(operations).unwrap_err()), refused);
+    }
+    assert_eq!(at(c.trace(Partition(0)).unwrap_err()), (10, Place::Call));
+    assert_eq!(at(c.close().unwrap_err()), (10, Place::Call));
+    assert_eq!((c.image(), c.log()), (&before.0[..], &before.1[..]));
+    Ok(())
+}
+
+#[test]
+fn refusals_of_a_phase() -> Result<(), Refused> {
+    let (mut image, mut log) = (vec![0; words(16, 64)], vec![b'.'; 4000]);
+    let mut c = Catalogue::format(&mut image, &mut log, 16, 64)?;
+    c.commit(&[Operation::New(n(15, 63), 1), Operation::Root(Root(15), Some(n(15, 63)))])?;
+    c.open()?;
+    assert_eq!(at(c.open().unwrap_err()), (11, Place::Call));
+    assert_eq!(at(c.trace(Partition(16)).unwrap_err()), (7, Place::Call));
+    for p in 0..16 {
+        assert_eq!(at(c.close().unwrap_err()), (14, Place::Partition(Partition(p))));
+        c.trace(Partition(p))?;
+    }
+    let refused = c.trace(Partition(15)).unwrap_err();
+    assert_eq!(refused.to_string(), "refused 13: the partition is clean");
+    assert_eq!(c.close()?.freed, 0);
+    Ok(())
+}
+
+#[test]
+fn wrong_sizes() {
+    let (mut image, mut log) = (vec![0; 84], vec![b'.'; 400]);
+    assert_eq!(Catalogue::format(&mut image, &mut log, 2, 4).unwrap_err().refusal, Refusal::Size);
+    assert_eq!(Catalogue::format(&mut [], &mut [], 0, 0).unwrap_err().refusal, Refusal::Size);
+    assert_eq!(Catalogue::recover(&mut image, &mut log, 401).unwrap_err().refusal, Refusal::Room);
+    assert_eq!(at(Catalogue::recover(&mut image, &mut [], 0).unwrap_err()), (3, Place::Line(1)));
+    let mut bad = *b"heap\t1\t2\t4\nnew\t0\t0\t1\nroot\t0\t0\t1\nend\t2\n";
+    let (mut right, written) = (vec![9; words_for(&bad)], bad.len());
+    let refused = Catalogue::recover(&mut right, &mut bad, written).unwrap_err();
+    assert_eq!(refused.to_string(), "refused 9, line 3: the object is not in use");
+    assert_eq!(right, [0; 85]);
+}
+
+#[test]
+fn words_of_headings() {
+    for (log, lent) in [
+        (&b"heap\t1\t2\t4\nnew\t0"[..], 85),
+        (b"heap\t1\t16\t64\n", 6181),
+        (b"heap\t1\t17\t64\n", 43),
+        (b"heap\t1\t2\n", 43),
+        (b"heap\t1\t2\t\xff\n", 43),
+        (b"", 43),
+    ] {
+        assert_eq!(words_for(log), lent);
+    }
+}
+
+#[test]
+fn refusals_have_the_numbers_and_words_of_the_header() {
+    let header = include_str!("../../c/heidrunok.h");
+    let words: Vec<&str> = header
+        .lines()
+        .skip_while(|l| !l.contains("\"accepted\""))
+        .skip(1)
+        .map_while(|l| l.trim().strip_prefix('"')?.strip_suffix("\","))
+        .collect();
+    assert_eq!(words.len(), Refusal::ALL.len());
+    for (i, (r, w)) in Refusal::ALL.into_iter().zip(words).enumerate() {
+        assert_eq!((r.number() as usize, r.to_string().as_str()), (i + 1, w));
+    }
+}
+
+/// The report's text, from this crate alone.
+fn report(log: &[u8]) -> String {
+    if log.len() > 32768 {
+        return "toolong\n".into();
+    }
+    let (mut image, mut log, written) = (vec![0; words_for(log)], log.to_vec(), log.len());
+    match Catalogue::recover(&mut image, &mut log, written) {
+        Err(Refused { refusal, place: Place::Line(line) }) => format!("answer {}\nline {line}\n", refusal.number()),
+        Err(other) => panic!("{other}"),
+        Ok(c) => {
+            let phase = u32::from(c.phase_is_open());
+            let mut text = format!("answer 0\nkept {}\nphase {phase}\n", c.log().len());
+            for (name, o) in c.objects() {
+                writeln!(text, "object {} {} {}", name.partition.0, name.slot.0, o.payload).unwrap();
+            }
+            text
+        }
+    }
+}
+
+#[test]
+fn stored_logs() {
+    let logs = Path::new(env!("CARGO_MANIFEST_DIR")).join("../../tests/report");
+    let mut count = 0;
+    for entry in fs::read_dir(logs).unwrap() {
+        let path = entry.unwrap().path();
+        if path.extension().is_some_and(|e| e == "log") {
+            let wanted = fs::read_to_string(path.with_extension("report")).unwrap();
+            assert_eq!(report(&fs::read(&path).unwrap()), wanted, "{}", path.display());
+            count += 1;
+        }
+    }
+    assert!(count > 100, "{count} logs");
+}
