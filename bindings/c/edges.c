@@ -53,18 +53,22 @@ static void places(void) {
 
 /* Words of no sound image: every call but format and recover says 1, and the questions answer zeros. */
 static void unsound(void) {
-    size_t length = 99, extra = 99, freed = 99;
-    uint32_t traces = 99, payload = 99, fields[4] = {9, 9, 9, 9};
-    const uint32_t zeros[4] = {0, 0, 0, 0};
+    size_t length = 99, extra = 99, freed = 99, held = 99;
+    uint32_t traces = 99, payload = 99, fields[4] = {9, 9, 9, 9}, names[HEIDRUNOK_NAMES];
+    const uint32_t zeros[HEIDRUNOK_NAMES] = {0};
     bool yes = true;
     heidrunok_operation op = heidrunok_new(0, 0, 1);
     memset(img, 0xff, sizeof img);
+    memset(names, 0xff, sizeof names);
     CHECK(refuses(&op, 1, 1, 0));
     CHECK(heidrunok_open(img, WORDS, log_buffer, sizeof log_buffer, 11, &length, &extra) == 1 && length == 0 && extra == 0);
     CHECK(heidrunok_trace(img, WORDS, 0, log_buffer, sizeof log_buffer, 11, &length, &extra) == 1 && length == 0 && extra == 0);
     CHECK(heidrunok_close(img, WORDS, log_buffer, sizeof log_buffer, 11, &length, &traces, &freed, &extra) == 1 && traces == 0 && freed == 0);
+    freed = 99;
+    CHECK(heidrunok_local(img, WORDS, 0, log_buffer, sizeof log_buffer, 11, &length, &freed, &extra) == 1 && length == 0 && freed == 0);
     CHECK(heidrunok_read(img, WORDS, 0, 0, &payload, fields) == 1 && payload == 0 && memcmp(fields, zeros, sizeof fields) == 0);
     CHECK(heidrunok_ask(img, WORDS, 0, 0, &yes) == 1 && !yes);
+    CHECK(heidrunok_outlist(img, WORDS, 0, &held, names) == 1 && held == 0 && memcmp(names, zeros, sizeof names) == 0);
     CHECK(kept());
     CHECK(heidrunok_recover(img, WORDS, log_buffer, 0, &length, &extra) == 3 && length == 0 && extra == 1);
     memset(was, 0, sizeof was);

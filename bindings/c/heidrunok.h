@@ -23,9 +23,11 @@ extern "C" {
 #endif
 
 /* How many words an image of P partitions (1 to 16) of S slots (1 to 64) has. */
-#define HEIDRUNOK_WORDS(P, S) (37 + 6 * (size_t)(P) * (size_t)(S))
+#define HEIDRUNOK_WORDS(P, S) (37 + 7 * (size_t)(P) * (size_t)(S))
 /* The most operations of one commit. */
 #define HEIDRUNOK_OPERATIONS 32
+/* The most names of an outlist. */
+#define HEIDRUNOK_NAMES 256
 
 /* Made by the six functions below. Zeroed memory is no operation, and is refused with 7. */
 typedef struct {
@@ -69,19 +71,25 @@ uint32_t heidrunok_trace(uint32_t *img, size_t words, uint32_t partition, uint8_
 /* also answers the traces counted and the number of objects freed */
 uint32_t heidrunok_close(uint32_t *img, size_t words, uint8_t *log, size_t bytes, size_t at, size_t *length, uint32_t *traces,
                          size_t *freed, size_t *extra);
+/* frees the objects of one partition that neither a root, nor a field of an object in another partition, nor a chain inside it from either of
+ * these leads to; also answers their number */
+uint32_t heidrunok_local(uint32_t *img, size_t words, uint32_t partition, uint8_t *log, size_t bytes, size_t at, size_t *length,
+                         size_t *freed, size_t *extra);
 /* the kept length, where the log is to be cut and the next record goes; refused, the line */
 uint32_t heidrunok_recover(uint32_t *img, size_t words, const uint8_t *log, size_t bytes, size_t *kept, size_t *line);
-/* fields[k] is 0 for nothing, or 64 q + t + 1 for the object (q, t) */
+/* fields[k] is 0 for nothing, or the name 64 q + t + 1 of the object (q, t) */
 uint32_t heidrunok_read(const uint32_t *img, size_t words, uint32_t p, uint32_t s, uint32_t *payload, uint32_t fields[4]);
 /* whether a root leads to the object (p, s) */
 uint32_t heidrunok_ask(const uint32_t *img, size_t words, uint32_t p, uint32_t s, bool *yes);
+/* the objects of other partitions that fields of the partition's objects name: how many, and their names in order, unused ones 0 */
+uint32_t heidrunok_outlist(const uint32_t *img, size_t words, uint32_t partition, size_t *held, uint32_t names[HEIDRUNOK_NAMES]);
 
 static inline const char *heidrunok_refusal(uint32_t number) {
     static const char *const words[] = {
         "accepted",
         "the image is not sound",
-        "partitions or slots out of range, or the image's length is not 37 + 6 P S",
-        "the first line is not a heading of edition 1, or there is none",
+        "partitions or slots out of range, or the image's length is not 37 + 7 P S",
+        "the first line is not a heading of edition 1 or 2, or there is none",
         "a line without a shape, or over 20 bytes",
         "a heading again, a collector line within a transaction, or an end without operations",
         "no operation or more than 32, or the end's number is wrong",

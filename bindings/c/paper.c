@@ -1,4 +1,4 @@
-/* The paper's example from C: three objects in a chain, a phase of the collector, a crash. Prints bindings/paper.txt. */
+/* The paper's example from C: three objects in a chain, a phase of the collector, a partition freed on its own, a crash. Prints bindings/paper.txt. */
 #include "heidrunok.h"
 #include <stdio.h>
 #include <string.h>
@@ -47,6 +47,15 @@ static void close_phase(void) {
     }
 }
 
+static void local(const char *what, uint32_t partition) {
+    size_t freed;
+    uint32_t number = heidrunok_local(img, WORDS, partition, log_buffer, sizeof log_buffer, end, &length, &freed, &extra);
+    logged(what, number, "");
+    if (number == 0) {
+        printf("%s: %zu freed\n", what, freed);
+    }
+}
+
 static void ask(const char *what, uint32_t p, uint32_t s) {
     bool yes;
     uint32_t number = heidrunok_ask(img, WORDS, p, s, &yes);
@@ -54,6 +63,14 @@ static void ask(const char *what, uint32_t p, uint32_t s) {
         refused(what, number, "");
     } else {
         printf("%s: %s\n", what, yes ? "yes" : "no");
+    }
+}
+
+static void print_name(uint32_t name) {
+    if (name == 0) {
+        printf(" -");
+    } else {
+        printf(" %u.%u", (unsigned)((name - 1) / 64), (unsigned)((name - 1) % 64));
     }
 }
 
@@ -66,11 +83,22 @@ static void read_first(void) {
     }
     printf("read 0.0: payload %u, fields", (unsigned)payload);
     for (int k = 0; k < 4; k++) {
-        if (fields[k] == 0) {
-            printf(" -");
-        } else {
-            printf(" %u.%u", (unsigned)((fields[k] - 1) / 64), (unsigned)((fields[k] - 1) % 64));
-        }
+        print_name(fields[k]);
+    }
+    printf("\n");
+}
+
+static void outlist(const char *what, uint32_t partition) {
+    size_t held;
+    uint32_t names[HEIDRUNOK_NAMES];
+    uint32_t number = heidrunok_outlist(img, WORDS, partition, &held, names);
+    if (number != 0) {
+        refused(what, number, "");
+        return;
+    }
+    printf("%s: %zu held", what, held);
+    for (size_t i = 0; i < held; i++) {
+        print_name(names[i]);
     }
     printf("\n");
 }
@@ -92,6 +120,12 @@ int main(void) {
         heidrunok_set(0, 0, 0, 1, 0), heidrunok_set(1, 0, 0, 0, 1), heidrunok_root(0, 0, 0),
     };
     const heidrunok_operation stray[] = {heidrunok_new(1, 1, 40)};
+    const heidrunok_operation cycle[] = {
+        heidrunok_new(0, 2, 50),
+        heidrunok_new(0, 3, 60),
+        heidrunok_set(0, 2, 0, 0, 3),
+        heidrunok_set(0, 3, 0, 0, 2),
+    };
     const heidrunok_operation too_large[] = {heidrunok_unroot(16)};
     heidrunok_operation many[HEIDRUNOK_OPERATIONS + 1];
     for (size_t i = 0; i <= HEIDRUNOK_OPERATIONS; i++) {
@@ -107,6 +141,8 @@ int main(void) {
     read_first();
     ask("ask 0.1", 0, 1);
     ask("ask 1.1", 1, 1);
+    outlist("outlist 1", 1);
+    outlist("outlist 2", 2);
     logged("open", heidrunok_open(img, WORDS, log_buffer, sizeof log_buffer, end, &length, &extra), "");
     close_phase();
     trace("trace 1", 1);
@@ -116,6 +152,10 @@ int main(void) {
     trace("trace 0", 0);
     close_phase();
     ask("ask 1.1", 1, 1);
+    commit("commit of a cycle", cycle, 4);
+    local("local 0", 0);
+    local("local 0", 0);
+    local("local 2", 2);
     recover("recovery of 5 bytes", 5);
     recover("recovery of 100 bytes", 100);
     recover("recovery of all", end);

@@ -1,8 +1,8 @@
 #!/usr/bin/env python3
-# Makes stdin (bodies at every edge) and stdout (what each is, by the rules of document 01 alone; nothing here knows the machine).
+# Makes stdin (bodies at every edge) and stdout (what each is, by the rules of document 01 and of W1 alone; nothing here knows the machine).
 import os, re
 
-SHAPES = {"new": 3, "set": 5, "clr": 3, "val": 3, "root": 3, "unroot": 1, "end": 1, "open": 0, "trace": 1, "close": 0}
+SHAPES = {"new": 3, "set": 5, "clr": 3, "val": 3, "root": 3, "unroot": 1, "end": 1, "open": 0, "trace": 1, "close": 0, "local": 1}
 
 
 def line(body):
@@ -13,7 +13,7 @@ def line(body):
     if any(not re.fullmatch(rb"0|[1-9][0-9]*", n) or int(n) > 4294967295 for n in numbers):
         return "bad"
     if keyword == "heap":
-        good = len(numbers) == 3 and numbers[0] == b"1"
+        good = len(numbers) == 3 and numbers[0] in (b"1", b"2")
     else:
         good = SHAPES.get(keyword) == len(numbers)
     return " ".join([keyword] + [n.decode() for n in numbers]) if good else "bad"
@@ -24,7 +24,7 @@ def t(*fields):
 
 
 MOST = 4294967295
-honest = [t("heap", 1, 2, 4), t("new", 0, 0, 10), t("set", 0, 0, 0, 1, 0), t("clr", 0, 0, 3), t("val", 1, 0, 20), t("root", 0, 0, 0), t("unroot", 15), t("end", 6), t("open"), t("trace", 1), t("close")]
+honest = [t("heap", 1, 2, 4), t("new", 0, 0, 10), t("set", 0, 0, 0, 1, 0), t("clr", 0, 0, 3), t("val", 1, 0, 20), t("root", 0, 0, 0), t("unroot", 15), t("end", 6), t("open"), t("trace", 1), t("close"), t("local", 1), t("heap", 2, 2, 4)]
 bodies = list(honest)
 # 20 and 21 bytes, the numbers good in both
 for twenty, more in [
@@ -52,7 +52,7 @@ for body in honest:
         for n in ["0", "1", "9", "10", "4294967295", "4294967296", "4294967300", "9999999999", "42949672950", "00", "01", "000", "", "+1", "-0", "-1", " 1", "1 ", "1.", "0x1", "1e1", "a", "/", ":", "\r"]:
             bodies.append(t(keyword, *numbers[:i], n.encode(), *numbers[i + 1 :]))
 # headings of other editions, empty bodies, bytes that are no text
-bodies += [t("heap", e, 2, 4) for e in (0, 1, 2, 9, 10, 11, "01", "")] + [b"heap", b"heap\t", b"heap\t1", b"heap\t1\t", b"heap\t1\t2", b"heap\t12\t4", b"heap1\t2\t4"]
+bodies += [t("heap", e, 2, 4) for e in (0, 1, 2, 3, 9, 10, 11, "01", "")] + [b"heap", b"heap\t", b"heap\t1", b"heap\t1\t", b"heap\t1\t2", b"heap\t12\t4", b"heap1\t2\t4"]
 bodies += [b"", b"\t", b"\r", b"\0", b"\0open", bytes([0xFF]), bytes([0xEF, 0xBB, 0xBF]) + b"open", b" ", b"end\x0b1", b"en", b"e", b"n", b"h"]
 tail = t("new", 0, 0)
 

@@ -1,5 +1,6 @@
 #!/usr/bin/env python3
-"""Makes the scripts that are not written by hand (paper, stars, limits, logs, random-..), and from model.py the .answers of every script here.
+"""Makes the scripts that are not written by hand (paper, stars, local, limits, logs, random-..), and from model.py the .answers of every
+script here but those of w1-..: they were made elsewhere, and model.py gives the same.
 
 scripts.py            makes them all anew
 scripts.py SEED       writes one random script, for trying more than are stored
@@ -10,7 +11,7 @@ from pathlib import Path
 
 import model
 
-HEAP = "image 85 | buffer 400 | format 2 4 @ | new 0 0 10 | new 1 0 20 | new 0 1 30 | set 0 0 0 1 0 | set 1 0 0 0 1 | root 0 0 0 | commit @"
+HEAP = "image 93 | buffer 400 | format 2 4 @ | new 0 0 10 | new 1 0 20 | new 0 1 30 | set 0 0 0 1 0 | set 1 0 0 0 1 | root 0 0 0 | commit @"
 PHASE = "open @ | trace 1 @ | trace 0 @ | trace 1 @ | trace 0 @ | close @ | show"
 
 # Logs as they are, with what is to be seen.
@@ -18,7 +19,9 @@ LOGS = [
     ("no line at all: 3, line 1", ""),
     ("no complete line", "heap\t1\t2\t4"),
     ("no heading", "open\n"),
-    ("a heading of another edition", "heap\t2\t2\t4\n"),
+    ("a heading of another edition: 1 and 2 there are", "heap\t3\t2\t4\n"),
+    ("", "heap\t0\t2\t4\n"),
+    ("", "heap\t2\t2\t4\n"),
     ("a heading with spaces, a leading zero, a line too long", "heap 1 2 4\n"),
     ("", "heap\t1\t02\t4\n"),
     ("", "heap\t1\t2\t44444444444444444\n"),
@@ -37,7 +40,10 @@ LOGS = [
     ("", "heap\t1\t2\t4\nset\t1000\t1000\t3\t1000\t1\nend\t1\n"),
     ("5: a heading again, a collector line within a transaction, an end with no operation", "heap\t1\t2\t4\nheap\t1\t2\t4\n"),
     ("", "heap\t1\t2\t4\nheap\t1\t99\t0\n"),
-    ("a heading of no edition that there is: 4", "heap\t1\t2\t4\nheap\t2\t2\t4\n"),
+    ("a heading of any edition that there is: 5; of no other: 4", "heap\t1\t2\t4\nheap\t2\t2\t4\n"),
+    ("", "heap\t2\t2\t4\nheap\t1\t2\t4\n"),
+    ("", "heap\t1\t2\t4\nheap\t3\t2\t4\n"),
+    ("", "heap\t2\t2\t4\nheap\t12\t2\t4\n"),
     ("", "heap\t1\t2\t4\nnew\t0\t0\t1\nopen\n"),
     ("", "heap\t1\t2\t4\nend\t0\n"),
     ("6: n wrong, before what its operations are refused with", "heap\t1\t2\t4\nnew\t9\t9\t1\nend\t2\n"),
@@ -55,6 +61,13 @@ LOGS = [
     ("", "heap\t1\t2\t4\nnew\t0\t0\t1\nroot\t0\t0\t0\nend\t2\nopen\ntrace\t0\ntrace\t0\n"),
     ("", "heap\t1\t2\t4\nnew\t0\t0\t1\nroot\t0\t0\t0\nend\t2\nopen\ntrace\t0\nclose\n"),
     ("trace 2: 7", "heap\t1\t2\t4\nnew\t0\t0\t1\nroot\t0\t0\t0\nend\t2\nopen\ntrace\t2\n"),
+    ("local lines, under a heading of either edition: 12, 7, 5, no shape", "heap\t1\t2\t4\nlocal\t0\n"),
+    ("", "heap\t2\t2\t4\nlocal\t2\n"),
+    ("", "heap\t2\t2\t4\nnew\t0\t0\t1\nlocal\t0\n"),
+    ("", "heap\t2\t2\t4\nlocal\n"),
+    ("", "heap\t2\t2\t4\nlocal\t0\t0\n"),
+    ("and accepted; a tail that begins one", "heap\t1\t2\t4\nnew\t0\t0\t1\nnew\t0\t1\t2\nroot\t0\t0\t0\nend\t3\nlocal\t1\nlocal\t0\nlocal"),
+    ("", "heap\t2\t2\t4\nnew\t0\t0\t1\nnew\t0\t1\t2\nroot\t0\t0\t0\nend\t3\nopen\nlocal\t0\ntrace\t0\nloc"),
     ("an open phase", "heap\t1\t2\t4\nnew\t0\t0\t1\nroot\t0\t0\t0\nend\t2\nopen\ntrace\t0\nnew\t1\t1\t5\nend\t1\ntra"),
 ]
 
@@ -83,10 +96,10 @@ def paper():
 
 def stars():
     """The paper's numbers with a star, acted out."""
-    alone = "image 85 | buffer 400 | format 2 4 @ | new 0 0 1 | new 1 0 2 | root 0 0 0 | commit @"
+    alone = "image 93 | buffer 400 | format 2 4 @ | new 0 0 1 | new 1 0 2 | root 0 0 0 | commit @"
     return [
-        "# Object (1,0) begins at word 61, and its name is 65: allowance 4, count 4, none freed.",
-        *acted(HEAP + " | open @ | word 61 2 | word 61 1 | read 0 0 | show | trace 1 @ | trace 0 @ | trace 1 @ | trace 0 @ | close @"),
+        "# Object (1,0) begins at word 65, and its name is 65: allowance 4, count 4, none freed.",
+        *acted(HEAP + " | open @ | word 65 2 | word 65 1 | read 0 0 | show | trace 1 @ | trace 0 @ | trace 1 @ | trace 0 @ | close @"),
         "# With an unreferenced (1,1): allowance 5, 1 freed.",
         *acted(HEAP + " | new 1 1 40 | commit @ | open @ | show | trace 1 @ | trace 0 @ | trace 1 @ | trace 0 @ | close @ | show"),
         "# With, instead, a cycle that no root reaches: 2 freed.",
@@ -94,21 +107,55 @@ def stars():
         "# A store in a phase marks its target, and its partition is not clean: close answers 14 and 1, then count 3, none freed.",
         *acted(alone + " | open @ | trace 0 @ | trace 1 @ | set 0 0 0 1 0 | commit @ | show | close @ | trace 1 @ | close @ | show"),
         "# Two roots on one object, no other: the allowance is P.",
-        *acted("image 85 | buffer 400 | format 2 4 @ | new 1 3 9 | root 2 1 3 | root 9 1 3 | commit @ | open @ | show"),
+        *acted("image 93 | buffer 400 | format 2 4 @ | new 1 3 9 | root 2 1 3 | root 9 1 3 | commit @ | open @ | show"),
         "# The last root taken away in a phase: close 12.",
         *acted(alone + " | open @ | trace 0 @ | trace 1 @ | unroot 0 | commit @ | close @"),
         "# Open on an empty heap: 12. Trace twice running: 13.",
-        *acted("image 85 | buffer 400 | format 2 4 @ | open @ | new 0 0 1 | root 0 0 0 | commit @ | open @ | trace 0 @ | trace 0 @"),
+        *acted("image 93 | buffer 400 | format 2 4 @ | open @ | new 0 0 1 | root 0 0 0 | commit @ | open @ | trace 0 @ | trace 0 @"),
         "# In a phase an object is born marked; a store marks even where the field held its target; birth, clr, val and unroot change no flag.",
         *acted(alone + " | root 1 1 0 | commit @ | open @ | trace 0 @ | trace 1 @ | new 0 3 3 | val 1 0 7 | clr 0 0 1 | unroot 1 | commit @ | show | set 0 0 0 0 0 | root 4 0 3 | commit @ | close @ | show"),
         "# A trace stays within its partition, and then marks what lies just outside it, no further.",
         *acted(HEAP + " | new 0 2 1 | new 0 3 1 | set 0 0 1 0 2 | set 0 2 0 0 3 | set 0 3 0 0 0 | commit @ | open @ | trace 0 @ | show | trace 1 @ | show"),
+        "# Local frees a cycle inside its partition, 2 objects, and keeps (1,2), which only (0,1) names, garbage though that is.",
+        *acted(alone + " | new 1 1 3 | set 1 0 0 1 1 | set 1 1 0 1 0 | new 0 1 4 | new 1 2 5 | set 0 1 3 1 2 | commit @ | ask 1 2 | local 1 @ | read 1 2 | show"),
     ]
 
 
+def local():
+    """One partition freed on its own, and the outlists."""
+    rooted = HEAP + " | new 0 2 1 | new 0 3 2 | new 1 1 3 | new 1 2 4 | new 1 3 5"
+    return [
+        "# What a root, a counted name or a chain inside the partition from either of these leads to stays; roots count nothing.",
+        *acted(rooted + " | set 0 2 0 1 1 | set 1 1 2 1 2 | root 4 1 3 | commit @ | outlist 0 | outlist 1 | local 1 @ | show | unroot 4 | commit @ | local 1 @ | show"),
+        "# The next local frees what an object that the one before freed had named.",
+        *acted(rooted + " | set 0 2 0 1 1 | set 1 1 2 1 2 | set 1 2 1 0 3 | commit @ | show | local 1 @ | local 0 @ | show | local 1 @ | show | local 0 @ | show | digest"),
+        "# A cycle over two partitions stays; a phase frees it, and the counts with it.",
+        *acted(HEAP + " | new 0 2 1 | new 1 2 2 | set 0 2 0 1 2 | set 1 2 3 0 2 | set 1 2 0 1 0 | commit @ | local 0 @ | local 1 @ | show | open @ | trace 0 @ | trace 1 @ | trace 0 @ | trace 1 @ | close @ | show"),
+        "# Two fields count two, and the outlist has the name once; a field that is set again, to the same and to another; one that is cleared.",
+        *acted(HEAP + " | set 0 0 1 1 0 | set 0 0 3 1 0 | commit @ | show | outlist 0 | set 0 0 1 1 0 | set 0 0 3 0 1 | commit @ | show | clr 0 0 0 | clr 0 0 0 | commit @ | show | outlist 0 | clr 0 0 1 | commit @ | show | outlist 0"),
+        "# The outlist has the names in order, of objects that nothing leads to as well.",
+        *acted(rooted + " | set 0 3 0 1 3 | set 0 2 1 1 1 | set 0 2 0 1 2 | set 0 0 2 1 3 | set 0 3 2 0 3 | commit @ | outlist 0 | outlist 1 | local 0 @ | outlist 0 | show"),
+        "# In a phase: what is freed may be marked; what stays keeps its mark, and flags, traces and allowance stay.",
+        *acted(rooted + " | set 1 0 2 1 1 | root 7 0 2 | commit @ | open @ | trace 1 @ | trace 0 @ | unroot 7 | clr 1 0 2 | commit @ | show | local 0 @ | local 1 @ | show | new 1 1 8 | commit @ | close @ | trace 1 @ | trace 0 @ | close @ | show"),
+        "# Its log, recovered, gives every word again.",
+        "digest",
+        "recover 270",
+        "digest",
+        "log 270",
+        "# No root: 12, after 7.",
+        *acted("image 93 | buffer 400 | format 2 4 @ | new 0 0 1 | commit @ | local 2 @ | local 0 @ | outlist 0 | root 0 0 0 | commit @ | local 0 @"),
+    ]
+
+
+def grouped(operations):
+    """The operations in commits of at most 32."""
+    lines = list(operations)
+    return "".join(" | " + " | ".join([*lines[i : i + 32], "commit 2000"]) for i in range(0, len(lines), 32))
+
+
 def limits():
-    """The largest of everything: 6,181 words, 65,536 bytes, 32 operations, the largest numbers."""
-    text = "image 6181 | buffer 65536 | format 16 64 65524 | format 17 64 0 | format 16 65 0 | format 16 64 65523 | digest | format 16 64 0"
+    """The largest of everything: 7,205 words, 65,536 bytes, 32 operations, the largest numbers."""
+    text = "image 7205 | buffer 65536 | format 16 64 65524 | format 17 64 0 | format 16 65 0 | format 16 64 65523 | digest | format 16 64 0"
     text += " | new 15 63 4294967295 | new 0 0 0 | set 15 63 3 15 63 | root 15 15 63 | commit 13 | read 15 63 | ask 15 63 | ask 0 0 | log 82"
     text += "".join(" | new 1 %d %d" % (i, i) for i in range(32)) + " | commit 82"
     text += "".join(" | new 2 %d %d" % (i, i) for i in range(33)) + " | commit 600 | commit 600"
@@ -117,17 +164,24 @@ def limits():
     text += "".join(" | new %d 63 0" % p for p in range(15)) + "".join(" | set %d 63 0 %d 63" % (p + 1, p) for p in range(15)) + " | commit 600 | ask 0 63 | open 1000"
     turn = "".join(" | trace %d 1010" % p for p in range(16))
     text += turn * 3 + " | close 2000" + turn * 13 + " | close 2000 | show | digest"
+    # an object that 64 of one partition name four times each, and the longest outlist
+    text += " | new 0 1 0 | commit 2000"
+    slots = [(3, s) for s in range(64) if s != 63]
+    text += grouped("new %d %d 0" % a for a in slots) + grouped("set 3 %d %d 0 1" % (s, k) for s in range(64) for k in range(4))
+    text += " | outlist 3 | show | local 0 1000" + grouped("new %d %d 0" % (4 + s // 16, 4 * (s % 16) + k) for s in range(64) for k in range(4) if 4 * (s % 16) + k != 63)
+    text += grouped("set 3 %d %d %d %d" % (s, k, 4 + s // 16, 4 * (s % 16) + k) for s in range(64) for k in range(4)) + " | outlist 3 | outlist 7 | digest"
+    text += " | local 4 1000 | local 3 1000 | local 4 1000 | digest"
     return text.split(" | ")
 
 
 def logs():
     """Logs that were never written by a call."""
-    lines = ["# Recovery of any bytes, into any words of the right length; refused, it leaves zeros. Each log stands before its recovery.", "image 85", "word 0 9", "word 84 9", "buffer 500"]
+    lines = ["# Recovery of any bytes, into any words of the right length; refused, it leaves zeros. Each log stands before its recovery.", "image 93", "word 0 9", "word 92 9", "buffer 500"]
     for remark, log in LOGS:
         lines += ["# " + remark] if remark else []
         lines += ["bytes 0 " + " ".join(map(str, log.encode()))] if log else []
         lines += ["recover %d" % len(log.encode()), "digest"]
-    return lines + ["show", "# a wrong length is 2 before line 2, and zeros too", "image 84", "word 83 5", "recover 30", "digest", "image 0", "recover 30", "recover 0", "digest"]
+    return lines + ["show", "# a wrong length is 2 before line 2, and zeros too", "image 92", "word 91 5", "recover 30", "digest", "image 0", "recover 30", "recover 0", "digest"]
 
 
 class Writer:
@@ -196,6 +250,9 @@ class Writer:
         if self.r.random() < 0.9:
             self.logged("close")
 
+    def local(self):
+        self.logged("local %s" % self.name(True).split()[0])
+
     def recovery(self):
         """Recovery of a cut, at times of a log with a byte changed; mostly the whole log afterwards, so that the script goes on."""
         if self.r.random() < 0.3 and self.end:
@@ -219,7 +276,7 @@ class Writer:
         self.say("word %d %d" % (at, self.r.choice([0, 1, 2, 3, 64, 65, model.MOST])))
         for line in ("read %s" % self.name(True), "ask %s" % self.name(True), "show"):
             self.say(line)
-        self.logged(self.r.choice(["open", "trace 0", "close", "commit"]))
+        self.logged(self.r.choice(["open", "trace 0", "close", "commit", "local 0"]))
         self.say("word %d %d" % (at, before))
 
     def start(self):
@@ -232,12 +289,12 @@ class Writer:
     def script(self):
         r = self.r
         parts, slots = r.choice([(1, 1), (1, 4), (2, 3), (2, 4), (3, 2), (4, 4), (16, 2), (2, 64), (r.randrange(1, 17), r.randrange(1, 9))])
-        self.say("image %d" % (37 + 6 * parts * slots))
+        self.say("image %d" % model.size_of(parts, slots))
         self.say("buffer %d" % r.choice([300, 4000, 20000, 65536]))
         self.heading = "format %d %d" % (parts, slots)
         self.start()
         for _ in range(r.randrange(20, 60)):
-            act = r.choices([self.commit, self.phase, self.recovery, self.damage, self.asking, self.mistake], [12, 4, 2, 2, 5, 1])[0]
+            act = r.choices([self.commit, self.phase, self.local, self.recovery, self.damage, self.asking, self.mistake], [12, 4, 4, 2, 2, 5, 1])[0]
             act()
             if r.random() < 0.3:
                 self.say("digest")
@@ -248,10 +305,10 @@ class Writer:
 
     def asking(self):
         for _ in range(self.r.randrange(1, 4)):
-            self.say("%s %s" % (self.r.choice(["read", "ask"]), self.name(True)))
+            self.say(self.r.choice(["read %s" % self.name(True), "ask %s" % self.name(True), "outlist %s" % self.name(True).split()[0]]))
 
     def mistake(self):
-        self.say(self.r.choice(["read 0", "ask 0 0 0", "set 0 0 0 0", "word 6181 0", "recover 65537", "comit 0", "new 00 0 1", "val 0 -1 3", "bytes 0", "bytes 0 256", "log x", "", "# remark", "  \t", "\tread\t0  0 "]))
+        self.say(self.r.choice(["read 0", "ask 0 0 0", "set 0 0 0 0", "word 7205 0", "local 0", "outlist 0 0", "recover 65537", "comit 0", "new 00 0 1", "val 0 -1 3", "bytes 0", "bytes 0 256", "log x", "", "# remark", "  \t", "\tread\t0  0 "]))
 
 
 if __name__ == "__main__":
@@ -259,9 +316,9 @@ if __name__ == "__main__":
     if len(sys.argv) == 2:
         print(Writer(int(sys.argv[1])).script(), end="")
     else:
-        for make in (paper, stars, limits, logs):
+        for make in (paper, stars, local, limits, logs):
             (here / (make.__name__ + ".script")).write_text("\n".join(make()) + "\n")
         for seed in range(1, 25):
             (here / ("random-%02d.script" % seed)).write_text(Writer(seed).script())
-        for script in here.glob("*.script"):
+        for script in set(here.glob("*.script")) - set(here.glob("w1-*")):
             script.with_suffix(".answers").write_bytes(model.play(script.read_bytes()))

@@ -1,4 +1,4 @@
-//! The paper's example from Rust: three objects in a chain, a phase of the collector, a crash. Prints bindings/paper.txt.
+//! The paper's example from Rust: three objects in a chain, a phase of the collector, a partition freed on its own, a crash. Prints bindings/paper.txt.
 use heidrunok::{words, Catalogue, Field, Name, Operation, Partition, Refused, Root};
 
 /// A console stores the record's bytes here, and syncs.
@@ -27,6 +27,14 @@ fn close_phase(c: &mut Catalogue<'_>) {
     }
 }
 
+fn local(what: &str, c: &mut Catalogue<'_>, partition: u32) {
+    let freed = c.local(Partition(partition)).map(|x| (x.record.len(), x.freed));
+    logged(what, freed.map(|x| x.0), c.log().len());
+    if let Ok((_, freed)) = freed {
+        println!("{what}: {freed} freed");
+    }
+}
+
 fn ask(what: &str, c: &Catalogue<'_>, name: Name) {
     match c.ask(name) {
         Ok(yes) => println!("{what}: {}", if yes { "yes" } else { "no" }),
@@ -39,6 +47,16 @@ fn read(what: &str, c: &Catalogue<'_>, name: Name) {
         Ok(object) => {
             let shown = object.fields.map(|f| f.map_or_else(|| "-".to_string(), |n| n.to_string()));
             println!("{what}: payload {}, fields {}", object.payload, shown.join(" "));
+        }
+        Err(refused) => println!("{what}: {refused}"),
+    }
+}
+
+fn outlist(what: &str, c: &Catalogue<'_>, partition: u32) {
+    match c.outlist(Partition(partition)) {
+        Ok(outlist) => {
+            let shown: String = outlist.names().map(|n| format!(" {n}")).collect();
+            println!("{what}: {} held{shown}", outlist.len());
         }
         Err(refused) => println!("{what}: {refused}"),
     }
@@ -61,6 +79,13 @@ fn main() -> Result<(), Refused> {
         Operation::Set(second, Field(0), Some(third)),
         Operation::Root(Root(0), Some(first)),
     ];
+    let (fourth, fifth) = (Name::new(0, 2), Name::new(0, 3));
+    let cycle = [
+        Operation::New(fourth, 50),
+        Operation::New(fifth, 60),
+        Operation::Set(fourth, Field(0), Some(fifth)),
+        Operation::Set(fifth, Field(0), Some(fourth)),
+    ];
     let alone = [Operation::New(stray, 40)];
 
     let (mut image, mut log) = (vec![0; words(2, 4)], vec![0; 400]);
@@ -74,6 +99,8 @@ fn main() -> Result<(), Refused> {
     read("read 0.0", &c, first);
     ask("ask 0.1", &c, third);
     ask("ask 1.1", &c, stray);
+    outlist("outlist 1", &c, 1);
+    outlist("outlist 2", &c, 2);
     let opened = c.open().map(<[u8]>::len);
     logged("open", opened, c.log().len());
     close_phase(&mut c);
@@ -82,6 +109,10 @@ fn main() -> Result<(), Refused> {
     }
     close_phase(&mut c);
     ask("ask 1.1", &c, stray);
+    commit("commit of a cycle", &mut c, &cycle);
+    for partition in [0, 0, 2] {
+        local(&format!("local {partition}"), &mut c, partition);
+    }
 
     let (mut again, mut copy) = (vec![0; words(2, 4)], c.log().to_vec());
     recover("recovery of 5 bytes", &mut again, &mut copy, 5);

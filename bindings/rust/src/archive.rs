@@ -1,4 +1,4 @@
-//! The archive's eight functions, each behind one that lends it Rust's slices. All `unsafe` of this crate is here.
+//! The archive's ten functions, each behind one that lends it Rust's slices. All `unsafe` of this crate is here.
 //!
 //! A slice goes as its pointer and its length, which Rust keeps true; a `&mut` is lent to us alone, so that nothing overlaps and no other
 //! thread is there; the rest are locals of the wrapper. The archive asks for no more (docs/PUBLIC.md: no call has a `requires`), keeps no
@@ -7,8 +7,11 @@
 /// An operation as the archive takes it: a kind and five numbers.
 pub type Words = [u32; 6];
 
+/// The names of an outlist as words, unused ones 0.
+pub type Names = [u32; 256];
+
 mod c {
-    use super::Words;
+    use super::{Names, Words};
 
     extern "C" {
         pub fn heidrunok_format(
@@ -63,6 +66,17 @@ mod c {
             freed: *mut usize,
             extra: *mut usize,
         ) -> u32;
+        pub fn heidrunok_local(
+            img: *mut u32,
+            words: usize,
+            partition: u32,
+            log: *mut u8,
+            bytes: usize,
+            at: usize,
+            length: *mut usize,
+            freed: *mut usize,
+            extra: *mut usize,
+        ) -> u32;
         pub fn heidrunok_recover(
             img: *mut u32,
             words: usize,
@@ -80,6 +94,13 @@ mod c {
             fields: *mut [u32; 4],
         ) -> u32;
         pub fn heidrunok_ask(img: *const u32, words: usize, p: u32, s: u32, yes: *mut bool) -> u32;
+        pub fn heidrunok_outlist(
+            img: *const u32,
+            words: usize,
+            partition: u32,
+            held: *mut usize,
+            names: *mut Names,
+        ) -> u32;
     }
 }
 
@@ -184,6 +205,26 @@ pub fn close(img: &mut [u32], log: &mut [u8], at: usize) -> (Told, u32, usize) {
     (told, traces, freed)
 }
 
+/// Also the number freed.
+pub fn local(img: &mut [u32], partition: u32, log: &mut [u8], at: usize) -> (Told, usize) {
+    let (mut told, mut freed) = (Told::default(), 0);
+    // SAFETY: as in `format`, with three of our own numbers.
+    told.number = unsafe {
+        c::heidrunok_local(
+            img.as_mut_ptr(),
+            img.len(),
+            partition,
+            log.as_mut_ptr(),
+            log.len(),
+            at,
+            &mut told.length,
+            &mut freed,
+            &mut told.extra,
+        )
+    };
+    (told, freed)
+}
+
 /// The length is what is kept, the extra answer the line.
 pub fn recover(img: &mut [u32], log: &[u8]) -> Told {
     let mut told = Told::default();
@@ -208,4 +249,12 @@ pub fn ask(img: &[u32], p: u32, s: u32) -> (u32, bool) {
     // SAFETY: a slice that is only read, with its length, and a bool of our own, to which the archive writes 0 or 1.
     let number = unsafe { c::heidrunok_ask(img.as_ptr(), img.len(), p, s, &mut yes) };
     (number, yes)
+}
+
+/// The number, how many names the partition holds, and the names.
+pub fn outlist(img: &[u32], partition: u32) -> (u32, usize, Names) {
+    let (mut held, mut names) = (0, [0; 256]);
+    // SAFETY: a slice that is only read, with its length, and a number and 256 words of our own.
+    let number = unsafe { c::heidrunok_outlist(img.as_ptr(), img.len(), partition, &mut held, &mut names) };
+    (number, held, names)
 }

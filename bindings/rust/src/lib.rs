@@ -25,7 +25,7 @@ mod refusal;
 
 use core::fmt;
 
-use archive::{Told, Words};
+use archive::{Names, Told, Words};
 pub use refusal::{Place, Refusal, Refused};
 
 /// What a call answers.
@@ -34,7 +34,7 @@ pub type Result<T> = core::result::Result<T, Refused>;
 /// How many words an image of so many partitions (1 to 16) and slots of each (1 to 64) has.
 #[must_use]
 pub const fn words(partitions: u32, slots: u32) -> usize {
-    (partitions as usize).saturating_mul(slots as usize).saturating_mul(6).saturating_add(37)
+    (partitions as usize).saturating_mul(slots as usize).saturating_mul(7).saturating_add(37)
 }
 
 /// How many words to lend to the recovery of a log: as many as its heading asks for. With no heading, or one whose numbers are out of
@@ -147,6 +147,41 @@ pub struct Closed<'c> {
     pub traces: u32,
     /// How many objects were freed.
     pub freed: usize,
+}
+
+/// What a local collection answers.
+#[derive(Clone, Copy, PartialEq, Eq, Hash, Debug)]
+pub struct Freed<'c> {
+    /// The record to append to the log on disk.
+    pub record: &'c [u8],
+    /// How many objects were freed.
+    pub freed: usize,
+}
+
+/// The objects of other partitions that fields of a partition's objects name, at most 256 of them.
+#[derive(Clone, Copy, PartialEq, Eq, Hash, Debug)]
+pub struct Outlist {
+    held: usize,
+    words: Names,
+}
+
+impl Outlist {
+    /// How many names there are.
+    #[must_use]
+    pub fn len(&self) -> usize {
+        self.held
+    }
+
+    /// Whether there is none.
+    #[must_use]
+    pub fn is_empty(&self) -> bool {
+        self.held == 0
+    }
+
+    /// The names, in order and each once.
+    pub fn names(&self) -> impl Iterator<Item = Name> + '_ {
+        self.words.iter().filter_map(|&w| Name::of(w))
+    }
 }
 
 /// A catalogue over a lent image and a lent log buffer.
@@ -268,6 +303,17 @@ impl<'a> Catalogue<'a> {
         Ok(Closed { record, traces, freed })
     }
 
+    /// Frees the objects of one partition that neither a root, nor a field of an object in another partition, nor a chain inside the
+    /// partition from either of these leads to. A phase may be open or shut.
+    ///
+    /// # Errors
+    /// `Range`, `Rootless`, `Room`.
+    pub fn local(&mut self, partition: Partition) -> Result<Freed<'_>> {
+        let (told, freed) = archive::local(self.image, partition.0, self.log, self.end);
+        let record = self.logged(&told, Place::Call)?;
+        Ok(Freed { record, freed })
+    }
+
     /// An object's payload and fields.
     ///
     /// # Errors
@@ -286,6 +332,16 @@ impl<'a> Catalogue<'a> {
         let (number, yes) = archive::ask(self.image, name.partition.0, name.slot.0);
         accept(number, Place::Call)?;
         Ok(yes)
+    }
+
+    /// The objects of other partitions that fields of this one's objects name.
+    ///
+    /// # Errors
+    /// `Range`.
+    pub fn outlist(&self, partition: Partition) -> Result<Outlist> {
+        let (number, held, words) = archive::outlist(self.image, partition.0);
+        accept(number, Place::Call)?;
+        Ok(Outlist { held, words })
     }
 
     /// Every object in use, in partition then slot order.

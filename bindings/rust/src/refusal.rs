@@ -35,8 +35,8 @@ macro_rules! refusals {
 
 refusals! {
     Unsound = 1, "the image is not sound";
-    Size = 2, "partitions or slots out of range, or the image's length is not 37 + 6 P S";
-    Heading = 3, "the first line is not a heading of edition 1, or there is none";
+    Size = 2, "partitions or slots out of range, or the image's length is not 37 + 7 P S";
+    Heading = 3, "the first line is not a heading of edition 1 or 2, or there is none";
     Shape = 4, "a line without a shape, or over 20 bytes";
     Order = 5, "a heading again, a collector line within a transaction, or an end without operations";
     Count = 6, "no operation or more than 32, or the end's number is wrong";

@@ -39,7 +39,7 @@ fn records_are_the_bytes_of_the_log() -> Result<(), Refused> {
     disk.extend_from_slice(closed.record);
     assert_eq!((closed.traces, closed.freed), (4, 1));
     assert_eq!(disk, c.log());
-    let text = "heap\t1\t2\t4\nnew\t0\t0\t10\nnew\t1\t0\t20\nnew\t0\t1\t30\nset\t0\t0\t0\t1\t0\nset\t1\t0\t0\t0\t1\n\
+    let text = "heap\t2\t2\t4\nnew\t0\t0\t10\nnew\t1\t0\t20\nnew\t0\t1\t30\nset\t0\t0\t0\t1\t0\nset\t1\t0\t0\t0\t1\n\
         root\t0\t0\t0\nend\t6\nnew\t1\t1\t40\nval\t0\t1\t31\nend\t2\nclr\t0\t0\t3\nunroot\t15\nend\t2\nopen\n\
         trace\t1\ntrace\t0\ntrace\t1\ntrace\t0\nclose\n";
     assert_eq!(String::from_utf8_lossy(&disk), text);
@@ -128,8 +128,32 @@ fn refusals_of_a_phase() -> Result<(), Refused> {
 }
 
 #[test]
+fn one_partition_on_its_own() -> Result<(), Refused> {
+    let (mut image, mut log) = (vec![0; words(2, 4)], vec![b'.'; 400]);
+    let mut c = Catalogue::format(&mut image, &mut log, 2, 4)?;
+    assert_eq!(at(c.local(Partition(0)).unwrap_err()), (12, Place::Call));
+    c.commit(&chain())?;
+    c.commit(&[
+        Operation::New(n(0, 2), 1),
+        Operation::New(n(1, 2), 2),
+        Operation::New(n(1, 3), 3),
+        Operation::Set(n(0, 2), Field(3), Some(n(1, 2))),
+        Operation::Set(n(1, 3), Field(0), Some(n(1, 3))),
+    ])?;
+    assert_eq!(c.outlist(Partition(0))?.names().collect::<Vec<_>>(), [n(1, 0), n(1, 2)]);
+    assert_eq!((c.outlist(Partition(1))?.len(), at(c.outlist(Partition(2)).unwrap_err())), (1, (7, Place::Call)));
+    let freed = c.local(Partition(1))?;
+    assert_eq!((freed.record, freed.freed), (&b"local\t1\n"[..], 1));
+    assert_eq!((c.read(n(1, 3)).is_err(), c.read(n(1, 2))?.payload), (true, 2));
+    assert_eq!((c.local(Partition(0))?.freed, c.local(Partition(1))?.freed), (1, 1));
+    assert_eq!(at(c.local(Partition(2)).unwrap_err()), (7, Place::Call));
+    assert!(c.outlist(Partition(0))?.names().eq([n(1, 0)]) && !c.outlist(Partition(1))?.is_empty());
+    Ok(())
+}
+
+#[test]
 fn wrong_sizes() {
-    let (mut image, mut log) = (vec![0; 84], vec![b'.'; 400]);
+    let (mut image, mut log) = (vec![0; 92], vec![b'.'; 400]);
     assert_eq!(Catalogue::format(&mut image, &mut log, 2, 4).unwrap_err().refusal, Refusal::Size);
     assert_eq!(Catalogue::format(&mut [], &mut [], 0, 0).unwrap_err().refusal, Refusal::Size);
     assert_eq!(Catalogue::recover(&mut image, &mut log, 401).unwrap_err().refusal, Refusal::Room);
@@ -138,18 +162,18 @@ fn wrong_sizes() {
     let (mut right, written) = (vec![9; words_for(&bad)], bad.len());
     let refused = Catalogue::recover(&mut right, &mut bad, written).unwrap_err();
     assert_eq!(refused.to_string(), "refused 9, line 3: the object is not in use");
-    assert_eq!(right, [0; 85]);
+    assert_eq!(right, [0; 93]);
 }
 
 #[test]
 fn words_of_headings() {
     for (log, lent) in [
-        (&b"heap\t1\t2\t4\nnew\t0"[..], 85),
-        (b"heap\t1\t16\t64\n", 6181),
-        (b"heap\t1\t17\t64\n", 43),
-        (b"heap\t1\t2\n", 43),
-        (b"heap\t1\t2\t\xff\n", 43),
-        (b"", 43),
+        (&b"heap\t1\t2\t4\nnew\t0"[..], 93),
+        (b"heap\t2\t16\t64\n", 7205),
+        (b"heap\t2\t17\t64\n", 44),
+        (b"heap\t1\t2\n", 44),
+        (b"heap\t1\t2\t\xff\n", 44),
+        (b"", 44),
     ] {
         assert_eq!(words_for(log), lent);
     }

@@ -11,12 +11,13 @@ use borrow.Author.Tests.{leb-true, lt-leb, le-leb, lt-ltb, eqb-true, ltb-true}
 use Rattle.kinds.specs.Names.{mostPartitions, mostOperations}
 use Rattle.kinds.specs.Answers.{refuse}
 use Rattle.kinds.specs.declared.Name.{Name}
+use Rattle.kinds.specs.declared.Partition.{Partition}
 use Rattle.kinds.specs.declared.Operation.{Operation}
 use Rattle.kinds.specs.declared.Verdict.{Verdict}
 use Rattle.kinds.specs.declared.Verdict.the-variants.{Accepted}
 use Rattle.model.specs.Image.{Image, partitions, slots, count, get, place, front, stride}
-use Rattle.model.specs.Acts.{Act, commit, trace}
-use Rattle.model.specs.Judge.{check, judge, judgeOps}
+use Rattle.model.specs.Acts.{Act, commit, trace, local}
+use Rattle.model.specs.Judge.{check, judge, judgeOps, judgeOutlist}
 use Rattle.model.specs.Sound.{isSound, Sound, OpenHead}
 use Rattle.model.proofs.Soundness.{sound-true}
 use Rattle.model.proofs.Committing.{check-true}
@@ -24,8 +25,8 @@ use Rattle.image.specs.Within.{Within}
 use Rattle.image.proofs.Within.{sound-within, product}
 use Rattle.questions.proofs.Naming.{accepted-in}
 use Rattle.catalogue.specs.declared.Call.{Call}
-use Rattle.catalogue.specs.declared.Call.the-variants.{Open, Trace, Close, Object}
-use Rattle.catalogue.specs.Call.{judgeIn, judgeAct, judgeCommit, judgeObject, judgeCall}
+use Rattle.catalogue.specs.declared.Call.the-variants.{Open, Trace, Close, Local, Outlist as Foreign, Object}
+use Rattle.catalogue.specs.Call.{judgeIn, judgeAct, judgeCommit, judgeForeign, judgeObject, judgeCall}
 
 module _ (x : Image) where
   -- 1 where the image is not sound, else what the other checks say
@@ -38,10 +39,12 @@ module _ (x : Image) where
   passed v e = rw e
 
   pub unsound-call : (c : Call) → isSound x ≡ false → refuse 1 0 ≡ judgeCall x c
-  unfolding judgeAct judgeObject
+  unfolding judgeAct judgeForeign judgeObject
   unsound-call Open e = unsound _ e
   unsound-call (Trace p) e = unsound _ e
   unsound-call Close e = unsound _ e
+  unsound-call (Local p) e = unsound _ e
+  unsound-call (Foreign p) e = unsound _ e
   unsound-call (Object n) e = unsound _ e
 
   pub sound-in : isSound x ≡ true → Within (get x partitions) (get x slots) x
@@ -66,6 +69,21 @@ module _ (x : Image) where
         ltb-true _ _ (check-true _ _ _ _ (a .1) .0),
         omega (arith, h .allowed, h .counted, s .partitions-most, product mostPartitions (get x partitions) (get x slots) (s .partitions-most) (s .slots-most)),
       )
+
+  -- a local collection that is accepted is of one of P partitions
+  pub local-in : (t : ℕ) → judgeAct x (local t) ≡ Accepted → t < get x partitions
+  unfolding judge
+  local-in t j = ltb-true _ _ (check-true _ _ _ _ (act-judged (local t) j) .0)
+
+  -- and so is a partition whose outlist is asked for
+  module _ (p : Partition) (j : judgeForeign x p ≡ Accepted) where
+    pub foreign-sound : isSound x ≡ true
+    unfolding judgeForeign
+    foreign-sound = check-true _ _ _ _ j .0
+
+    pub foreign-in : p .0 < get x partitions
+    unfolding judgeForeign judgeOutlist
+    foreign-in = ltb-true _ _ (check-true _ _ _ _ (check-true _ _ _ _ j .1) .0)
 
   module _ (n : Name) (j : judgeObject x n ≡ Accepted) where
     pub object-sound : isSound x ≡ true

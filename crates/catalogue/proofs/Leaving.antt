@@ -10,23 +10,25 @@ use lib.Dec.{leb}
 use borrow.Author.Tests.{leb-true}
 use lib.ListN.{length, take}
 use Rattle.kinds.specs.declared.Name.{Name}
+use Rattle.kinds.specs.declared.Partition.{Partition}
 use Rattle.kinds.specs.declared.Record.{Record}
+use Rattle.kinds.specs.declared.Outlist.{Outlist}
 use Rattle.kinds.specs.declared.Operation.{Operation}
 use Rattle.kinds.specs.declared.Refusal.{Refusal}
 use Rattle.kinds.specs.declared.Verdict.{Verdict}
 use Rattle.kinds.specs.declared.Verdict.the-variants.{Accepted, Refused}
 use Rattle.model.specs.Image.{Image, lengthOf}
-use Rattle.model.specs.Acts.{Act, commit, closing}
+use Rattle.model.specs.Acts.{Act, commit, closing, local}
 use Rattle.model.specs.Judge.{check, judgeFormat}
 use Rattle.model.specs.Sound.{isSound}
 use Rattle.model.proofs.Soundness.{limits-back}
 use Rattle.model.proofs.SoundnessActs.{act-passes, blank-passes}
 use Rattle.image.proofs.Formats.{format-true}
 use Rattle.writer.specs.Write.{splice}
-use Rattle.catalogue.specs.Call.{noRoom, Outcome, outcome, perform, judgeAct, judgeCommit, judgeObject, formatOf, callOf, commitOf, closeOf, reading, readingOf, asked, askedOf}
-use Rattle.catalogue.specs.Answers.{said, saidClosing, saidReading, saidAsked}
+use Rattle.catalogue.specs.Call.{noRoom, Outcome, outcome, perform, judgeAct, judgeCommit, judgeForeign, judgeObject, formatOf, callOf, commitOf, closeOf, localOf, listing, listingOf, reading, readingOf, asked, askedOf}
+use Rattle.catalogue.specs.Answers.{said, saidClosing, saidFreeing, saidListing, saidReading, saidAsked}
 use Rattle.catalogue.proofs.Judged.{passed, act-sound, act-judged, commit-sound, commit-judged}
-use Rattle.model.proofs.Numbers.{Among, accepted, numbered, check-among, among-wider, act-among, name-among, format-among}
+use Rattle.model.proofs.Numbers.{Among, accepted, numbered, check-among, among-wider, act-among, outlist-among, name-among, format-among}
 
 module _ {A : Type 0} (done-as : ℕ → A) (refused-as : Refusal → A) (bytes : List ℕ) (next img : Image) (log : List ℕ) (at : ℕ) where
   -- a logged call ends in one of two ways; a refusal's number is lo or above
@@ -114,6 +116,13 @@ module _ (img : Image) (log : List ℕ) (at : ℕ) where
       leaves _ _ (λ a. saidClosing a .number) (λ n. refl) (λ r. refl) _ _ img log at _ (unsound-among img _ (act-among _ _ img closing))
       (sound-among img _ (act-among _ _ img closing)) (λ j. act-passes img closing (act-sound img closing j) (act-judged img closing j))
 
+  pub local-leaves : (p : Partition) → Leaves (λ a. saidFreeing a .number) img log (localOf img p log at)
+  unfolding localOf judgeAct
+  local-leaves p =
+      let a = act-among _ _ img (local (p .0)) in
+      leaves _ _ (λ a. saidFreeing a .number) (λ n. refl) (λ r. refl) _ _ img log at _ (unsound-among img _ a) (sound-among img _ a)
+      (λ j. act-passes img (local (p .0)) (act-sound img (local (p .0)) j) (act-judged img (local (p .0)) j))
+
 -- the questions: on a sound image they are never refused with 1
 module _ (img : Image) (n : Name) where
   object-among : isSound img ≡ true → Among 2 16 (judgeObject img n)
@@ -136,3 +145,11 @@ module _ (img : Image) (n : Name) where
       go Accepted true accepted e = omega arith
       go Accepted false accepted e = omega arith
       go (Refused _) b (numbered r l h) e = omega arith
+
+pub outlist-not-1 : (img : Image) (p : Partition) → isSound img ≡ true → saidListing (listingOf img p) .number ≢ 1
+unfolding listingOf judgeForeign
+outlist-not-1 img p s = go (judgeForeign img p) _ (sound-among img _ (among-wider 6 16 _ (omega arith) (omega arith) (outlist-among _ (p .0))) s)
+  where
+    go : (v : Verdict) (o : Outlist) → Among 2 16 v → saidListing (listing v o) .number ≢ 1
+    go Accepted o accepted e = omega arith
+    go (Refused _) o (numbered r l h) e = omega arith

@@ -19,6 +19,10 @@ use Rattle.catalogue.proofs.trace.Kinds as trace
 use Rattle.catalogue.proofs.trace.Reads as trace-reads
 use Rattle.catalogue.proofs.close.Kinds as close
 use Rattle.catalogue.proofs.close.Reads as close-reads
+use Rattle.catalogue.proofs.local.Kinds as local
+use Rattle.catalogue.proofs.local.Reads as local-reads
+use Rattle.catalogue.proofs.outlist.Kinds as outlist
+use Rattle.catalogue.proofs.outlist.Reads as outlist-reads
 use Rattle.catalogue.proofs.read.Kinds as read
 use Rattle.catalogue.proofs.read.Reads as read-reads
 use Rattle.catalogue.proofs.ask.Kinds as ask
@@ -54,7 +58,15 @@ pub close-once : (κs : Lfts 2) (xs : Dens κs close.ps) (a b : resT close.r κs
     → close-reads.Post κs xs a s → close-reads.Post κs xs b t → Once a b (now (s .0)) (now (t .0)) (now (s .1 .0)) (now (t .1 .0))
 close-once κs xs a b s t p q = once _ _ _ _ _ _ _ p q
 
--- read and ask are lent an image that they cannot change
+pub local-once : (κs : Lfts 2) (xs : Dens κs local.ps) (a b : resT local.r κs .Denot) (s t : AtExit (endedOf 2 local.ps local.r) κs)
+    → local-reads.Post κs xs a s → local-reads.Post κs xs b t → Once a b (now (s .0)) (now (t .0)) (now (s .1 .1 .0)) (now (t .1 .1 .0))
+local-once κs xs a b s t p q = once _ _ _ _ _ _ _ p q
+
+-- outlist, read and ask are lent an image that they cannot change
+pub outlist-once : (κs : Lfts 1) (xs : Dens κs outlist.ps) (a b : resT outlist.r κs .Denot) (s t : AtExit (endedOf 1 outlist.ps outlist.r) κs)
+    → outlist-reads.Post κs xs a s → outlist-reads.Post κs xs b t → a ≡ b
+outlist-once κs xs a b s t p q = p ∙ sym q
+
 pub read-once : (κs : Lfts 1) (xs : Dens κs read.ps) (a b : resT read.r κs .Denot) (s t : AtExit (endedOf 1 read.ps read.r) κs)
     → read-reads.Post κs xs a s → read-reads.Post κs xs b t → a ≡ b
 read-once κs xs a b s t p q = p ∙ sym q

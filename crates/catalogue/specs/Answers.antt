@@ -2,6 +2,7 @@
 use Prim.Native.Nat.{ℕ}
 use mathlib.Core.Bool.{Bool, true, false}
 use Rattle.kinds.specs.declared.Record.{Record}
+use Rattle.kinds.specs.declared.Outlist.{Outlist}
 use Rattle.kinds.specs.declared.Refusal.{Refusal}
 use Rattle.kinds.specs.declared.Verdict.{Verdict}
 use Rattle.kinds.specs.declared.Verdict.the-variants.{Accepted, Refused}
@@ -9,7 +10,10 @@ use Rattle.catalogue.specs.declared.Answer.{Answer}
 use Rattle.catalogue.specs.declared.Answer.the-variants.{Done, Refused as NotDone}
 use Rattle.catalogue.specs.declared.Closing.{Closing}
 use Rattle.catalogue.specs.declared.Closing.the-variants.{Closed, Refused as NotClosed}
+use Rattle.catalogue.specs.declared.Freeing.{Freeing}
+use Rattle.catalogue.specs.declared.Freeing.the-variants.{Freed, Refused as NotFreed}
 use Rattle.catalogue.specs.declared.Reading.{Reading}
+use Rattle.catalogue.specs.declared.Listing.{Listing}
 use Rattle.catalogue.specs.declared.Asked.{Asked}
 use Rattle.catalogue.specs.declared.Asked.the-variants.{Yes, No, Refused as NotAsked}
 
@@ -48,9 +52,25 @@ abbrev pub saidClosing : Closing → Said Totals
 saidClosing (Closed n c f) = accepted (totals n c f)
 saidClosing (NotClosed r) = refusedWith (totals 0 0 0) r
 
+-- local: the record's length, the number freed; refused: zeros
+pub record Yield : Type 0 where
+  pub length : ℕ
+  pub freed : ℕ
+
+abbrev pub yield : ℕ → ℕ → Yield
+yield n f = record { length = n; freed = f }
+
+abbrev pub saidFreeing : Freeing → Said Yield
+saidFreeing (Freed n f) = accepted (yield n f)
+saidFreeing (NotFreed r) = refusedWith (yield 0 0) r
+
 -- read: the record that stands beside the verdict
 abbrev pub saidReading : Reading → Said Record
 saidReading r = saidVerdict (r .verdict) (r .object)
+
+-- outlist: the outlist that stands beside the verdict
+abbrev pub saidListing : Listing → Said Outlist
+saidListing r = saidVerdict (r .verdict) (r .outlist)
 
 -- ask: yes or no; refused: no
 abbrev pub saidAsked : Asked → Said Bool

@@ -5,28 +5,33 @@ use mathlib.Core.List.{List}
 use lib.Dec.{leb}
 use lib.ListN.{length, take}
 use Rattle.kinds.specs.Names.{mostOperations}
-use Rattle.kinds.specs.Answers.{blankRecord}
+use Rattle.kinds.specs.Answers.{blankRecord, noNames}
 use Rattle.kinds.specs.declared.Name.{Name}
 use Rattle.kinds.specs.declared.Partition.{Partition}
 use Rattle.kinds.specs.declared.Operation.{Operation}
 use Rattle.kinds.specs.declared.Record.{Record}
+use Rattle.kinds.specs.declared.Outlist.{Outlist}
 use Rattle.kinds.specs.declared.Refusal.{Refusal}
 use Rattle.kinds.specs.declared.Verdict.{Verdict}
 use Rattle.kinds.specs.declared.Verdict.the-variants.{Accepted, Refused}
 use Rattle.model.specs.Image.{Image, partitions, slots, count, get, lengthOf, blank, place}
-use Rattle.model.specs.Acts.{Act, commit, opening, closing, trace, unmarked, apply}
-use Rattle.model.specs.Judge.{check, judge, judgeFormat, judgeName}
+use Rattle.model.specs.Acts.{Act, commit, opening, closing, trace, local, unmarked, localFreed, apply}
+use Rattle.model.specs.Judge.{check, judge, judgeFormat, judgeOutlist, judgeName}
 use Rattle.model.specs.Questions.{readOf, ask}
+use Rattle.model.specs.Outlist.{outlist}
 use Rattle.model.specs.Sound.{isSound}
 use Rattle.writer.specs.Record.{recordOf, newest, headingOf}
 use Rattle.writer.specs.Write.{splice}
 use Rattle.catalogue.specs.declared.Call.{Call}
-use Rattle.catalogue.specs.declared.Call.the-variants.{Open, Trace, Close, Object}
+use Rattle.catalogue.specs.declared.Call.the-variants.{Open, Trace, Close, Local, Outlist as Foreign, Object}
 use Rattle.catalogue.specs.declared.Answer.{Answer}
 use Rattle.catalogue.specs.declared.Answer.the-variants.{Done, Refused as NotDone}
 use Rattle.catalogue.specs.declared.Closing.{Closing}
 use Rattle.catalogue.specs.declared.Closing.the-variants.{Closed, Refused as NotClosed}
+use Rattle.catalogue.specs.declared.Freeing.{Freeing}
+use Rattle.catalogue.specs.declared.Freeing.the-variants.{Freed, Refused as NotFreed}
 use Rattle.catalogue.specs.declared.Reading.{Reading}
+use Rattle.catalogue.specs.declared.Listing.{Listing}
 use Rattle.catalogue.specs.declared.Asked.{Asked}
 use Rattle.catalogue.specs.declared.Asked.the-variants.{Yes, No, Refused as NotAsked}
 
@@ -94,6 +99,18 @@ closed img n = Closed n (get img count) (unmarked (get img partitions * get img 
 unfoldable pub closeOf : Image → List ℕ → ℕ → Outcome Closing
 closeOf img log at = perform (closed img) NotClosed (judgeAct img closing) (recordOf closing) (applyIn img closing) img log at
 
+-- LOCAL 1, 7, 12, 17; it answers the number freed
+abbrev pub freed : Image → ℕ → ℕ → Freeing
+freed img p n = Freed n (localFreed (get img partitions) (get img slots) p img)
+
+unfoldable pub localOf : Image → Partition → List ℕ → ℕ → Outcome Freeing
+localOf img p log at =
+    perform (freed img (p .0)) NotFreed (judgeAct img (local (p .0))) (recordOf (local (p .0))) (applyIn img (local (p .0))) img log at
+
+-- OUTLIST 1, 7
+unfoldable pub judgeForeign : Image → Partition → Verdict
+judgeForeign img p = check (isSound img) 1 0 (judgeOutlist (get img partitions) (p .0))
+
 -- READ and ASK 1, 7, 9
 unfoldable pub judgeObject : Image → Name → Verdict
 judgeObject img n = check (isSound img) 1 0 (judgeName (get img partitions) (get img slots) img n)
@@ -103,6 +120,8 @@ abbrev pub judgeCall : Image → Call → Verdict
 judgeCall img Open = judgeAct img opening
 judgeCall img (Trace p) = judgeAct img (trace (p .0))
 judgeCall img Close = judgeAct img closing
+judgeCall img (Local p) = judgeAct img (local (p .0))
+judgeCall img (Foreign p) = judgeForeign img p
 judgeCall img (Object n) = judgeObject img n
 
 -- refused: payload 0 and four nothings
@@ -112,6 +131,14 @@ reading (Refused x) r = record { verdict = Refused x; object = blankRecord }
 
 unfoldable pub readingOf : Image → Name → Reading
 readingOf img n = reading (judgeObject img n) (readOf img (place (get img slots) n))
+
+-- refused: number 0 and 256 zeros
+abbrev pub listing : Verdict → Outlist → Listing
+listing Accepted o = record { verdict = Accepted; outlist = o }
+listing (Refused x) o = record { verdict = Refused x; outlist = noNames }
+
+unfoldable pub listingOf : Image → Partition → Listing
+listingOf img p = listing (judgeForeign img p) (outlist (get img partitions) (get img slots) (p .0) img)
 
 -- refused: no
 abbrev pub asked : Verdict → Bool → Asked

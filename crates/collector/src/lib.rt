@@ -46,28 +46,30 @@ fn unmarked(img: &[u32], n: usize) -> usize
     c
 }
 
-// Six zeros at place j.
-fn clear(img: &mut [u32], s: usize, j: usize)
-    requires { ⌜ front + stride * j + stride ≤ length (now img) ⌝ }
+// State, payload and fields of place j become 0, its references released; its count is left to what names it.
+pub fn clear(img: &mut [u32], p: usize, s: usize, j: usize)
+    requires { ⌜ Within p s (now img) ⌝ }
+    requires { ⌜ j < p * s ⌝ }
     ensures { λ _. ⌜ now (img .exit) ≡ clear s (now (img .entry)) j ⌝ }
 {
     img[image::FRONT + image::STRIDE * j] = 0;
     img[image::FRONT + image::STRIDE * j + 1] = 0;
     let mut k: usize = 0;
     while k < FIELDS {
-        image::release_field(img, s, j, k);
+        image::release_field(&mut *img, p, s, j, k);
         k += 1;
     }
 }
 
 // An unmarked object becomes free, a mark becomes state 1.
-fn settle(img: &mut [u32], s: usize, j: usize)
-    requires { ⌜ front + stride * j + stride ≤ length (now img) ⌝ }
+fn settle(img: &mut [u32], p: usize, s: usize, j: usize)
+    requires { ⌜ Within p s (now img) ⌝ }
+    requires { ⌜ j < p * s ⌝ }
     ensures { λ _. ⌜ now (img .exit) ≡ settle s (now (img .entry)) j ⌝ }
 {
     let x = img[image::FRONT + image::STRIDE * j];
     if x == 1 {
-        clear(img, s, j);
+        clear(img, p, s, j);
         return;
     }
     if x == 2 {
@@ -136,7 +138,7 @@ fn step(img: &mut [u32], p: usize, s: usize, what: Sweep, i: usize) -> bool
             true
         }
         Sweep::Slots => {
-            settle(img, s, i);
+            settle(img, p, s, i);
             true
         }
         Sweep::Fields(t, within) => follow(img, p, s, t, within, i),

@@ -13,19 +13,19 @@ use Rattle.journal.specs.Recover.{Recovered as A-recovery, recoverOf}
 use Rattle.recovery.specs.declared.Recovery.{Recovery}
 use Rattle.recovery.specs.declared.Recovery.the-variants.{Kept, Refused as NotKept}
 use Rattle.writer.specs.Write.{splice}
-use Rattle.catalogue.specs.Call.{Outcome, outcome, formatOf, commitOf, openOf, traceOf, closeOf}
+use Rattle.catalogue.specs.Call.{Outcome, outcome, formatOf, commitOf, openOf, traceOf, closeOf, localOf}
 use Rattle.scripts.specs.declared.command.Next.{Next}
 use Rattle.scripts.specs.declared.command.Next.the-variants.{Number, Nothing as NoWord, Bad}
 use Rattle.scripts.specs.declared.order.Look.{Look as A-look}
-use Rattle.scripts.specs.declared.order.Look.the-variants.{Read, Ask, Digest, Show, Log, Help}
+use Rattle.scripts.specs.declared.order.Look.the-variants.{Read, Ask, Outlist, Digest, Show, Log, Help}
 use Rattle.scripts.specs.declared.order.Deed.{Deed as A-deed}
-use Rattle.scripts.specs.declared.order.Deed.the-variants.{Word, Format, Commit, Open, Trace, Close, Recover, Look}
+use Rattle.scripts.specs.declared.order.Deed.the-variants.{Word, Format, Commit, Open, Trace, Close, Local, Recover, Look}
 use Rattle.scripts.specs.declared.order.Order.{Order}
 use Rattle.scripts.specs.declared.order.Order.the-variants.{Nothing, What, Image as Lend-words, Buffer as Lend-bytes, Bytes, Wait, Deed}
 use Rattle.scripts.specs.Commands.{nextNumber}
 use Rattle.desk.specs.declared.Desk.{Desk}
 use Rattle.desk.specs.declared.Said.{Said}
-use Rattle.desk.specs.declared.Said.the-variants.{Nothing as Unanswered, What as Asked-what, Ok, Waits, Done, Closed, Recovered, Look as Seen}
+use Rattle.desk.specs.declared.Said.the-variants.{Nothing as Unanswered, What as Asked-what, Ok, Waits, Done, Closed, Freed, Recovered, Look as Seen}
 use Rattle.desk.specs.declared.Turn.{Turn}
 
 -- no more words and bytes are lent than there are
@@ -79,6 +79,7 @@ putWord i v img = cond (ltb i (length img)) (put Ok (set img i v)) (put Asked-wh
 abbrev pub past : A-look → ℕ → Bool
 past (Read n) lent = false
 past (Ask n) lent = false
+past (Outlist p) lent = false
 past Digest lent = false
 past Show lent = false
 past (Log n) lent = ltb lent n
@@ -96,6 +97,7 @@ deedOf (Commit at) ops n img log = answered Done (commitOf img ops n log at)
 deedOf (Open at) ops n img log = answered Done (openOf img log at)
 deedOf (Trace p at) ops n img log = answered Done (traceOf img p log at)
 deedOf (Close at) ops n img log = answered Closed (closeOf img log at)
+deedOf (Local p at) ops n img log = answered Freed (localOf img p log at)
 deedOf (Recover k) ops n img log = recoverFor k img log
 deedOf (Look l) ops n img log = outcome (seenFor l (length log)) img log
 
@@ -168,6 +170,7 @@ isCommit (Commit at) = true
 isCommit (Open at) = false
 isCommit (Trace p at) = false
 isCommit (Close at) = false
+isCommit (Local p at) = false
 isCommit (Recover n) = false
 isCommit (Look l) = false
 

@@ -35,6 +35,7 @@ fn past(l: Look, lent: usize) -> bool
     match l {
         Look::Read(_) => false,
         Look::Ask(_) => false,
+        Look::Outlist(_) => false,
         Look::Digest => false,
         Look::Show => false,
         Look::Log(n) => lent < n,
@@ -69,6 +70,7 @@ pub(crate) fn deed(
         Deed::Open(at) => Said::Done(catalogue::open(img, log, at)),
         Deed::Trace(p, at) => Said::Done(catalogue::trace(img, p, log, at)),
         Deed::Close(at) => Said::Closed(catalogue::close(img, log, at)),
+        Deed::Local(p, at) => Said::Freed(catalogue::local(img, p, log, at)),
         Deed::Recover(k) => recover(k, img, &*log),
         Deed::Look(l) => seen(l, log.len()),
     }

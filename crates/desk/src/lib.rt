@@ -10,6 +10,7 @@ use crate::lend::lend_words;
 use crate::lend::put_bytes;
 use catalogue::Answer;
 use catalogue::Closing;
+use catalogue::Freeing;
 use kinds::Operation;
 use recovery::Recovery;
 use scripts::order::Deed;
@@ -38,6 +39,7 @@ pub enum Said {
     Waits(usize),
     Done(Answer),
     Closed(Closing),
+    Freed(Freeing),
     Recovered(Recovery),
     // What is seen there.
     Look(Look),
@@ -119,6 +121,7 @@ fn is_commit(x: Deed) -> bool
         Deed::Open(_) => false,
         Deed::Trace(_, _) => false,
         Deed::Close(_) => false,
+        Deed::Local(_, _) => false,
         Deed::Recover(_) => false,
         Deed::Look(_) => false,
     }

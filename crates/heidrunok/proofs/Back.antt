@@ -1,22 +1,24 @@
 -- Nothing is lost: what C is told, read back, is the answer of the call. No refusal has the number 0, which says accepted.
 -- Assumes nothing.
 use Prim.Native.Nat.{ℕ, _≤_}
-use mathlib.Core.Path.{_≡_, refl}
+use mathlib.Core.Path.{_≡_, refl, sym, ap, _∙_}
 use mathlib.Core.Bool.{Bool, true, false, cond}
 use mathlib.Core.List.{List}
 use native.Mathlib.Omega.{arith}
 use lib.Dec.{eqb}
 use lib.ListN.{take}
 use borrow.Author.Tests.{ne-eqb}
-use Rattle.kinds.specs.Answers.{blankRecord, refuse}
+use Rattle.kinds.specs.Answers.{refuse}
 use Rattle.kinds.specs.declared.Name.{Name}
 use Rattle.kinds.specs.declared.Operation.{Operation}
+use Rattle.kinds.specs.declared.Outlist.{Outlist}
+use Rattle.kinds.specs.declared.Partition.{Partition}
 use Rattle.kinds.specs.declared.Record.{Record}
 use Rattle.kinds.specs.declared.Refusal.{Refusal}
 use Rattle.kinds.specs.declared.Verdict.{Verdict}
 use Rattle.kinds.specs.declared.Verdict.the-variants.{Accepted, Refused}
 use Rattle.model.specs.Image.{Image}
-use Rattle.model.specs.Acts.{Act, commit, closing}
+use Rattle.model.specs.Acts.{Act, commit, closing, local}
 use Rattle.model.specs.Judge.{check}
 use Rattle.model.specs.Sound.{isSound}
 use Rattle.lines.specs.Print.{Bytes}
@@ -27,12 +29,15 @@ use Rattle.catalogue.specs.declared.Answer.{Answer}
 use Rattle.catalogue.specs.declared.Answer.the-variants.{Done, Refused as NotDone}
 use Rattle.catalogue.specs.declared.Closing.{Closing}
 use Rattle.catalogue.specs.declared.Closing.the-variants.{Closed, Refused as NotClosed}
+use Rattle.catalogue.specs.declared.Freeing.{Freeing}
+use Rattle.catalogue.specs.declared.Freeing.the-variants.{Freed, Refused as NotFreed}
 use Rattle.catalogue.specs.declared.Reading.{Reading}
+use Rattle.catalogue.specs.declared.Listing.{Listing}
 use Rattle.catalogue.specs.declared.Asked.{Asked}
 use Rattle.catalogue.specs.declared.Asked.the-variants.{Yes, No, Refused as NotAsked}
-use Rattle.catalogue.specs.Answers.{Said, refusedWith, Totals, totals, said, saidClosing, saidReading, saidAsked}
-use Rattle.catalogue.specs.Call.{Outcome, perform, judgeAct, judgeCommit, judgeObject, formatOf, callOf, commitOf, closeOf, reading, readingOf, asked, askedOf}
-use Rattle.model.proofs.Numbers.{Among, accepted, numbered, check-among, among-wider, act-among, name-among, format-among}
+use Rattle.catalogue.specs.Answers.{Said, saidVerdict, refusedWith, Totals, totals, Yield, yield, said, saidClosing, saidFreeing, saidReading, saidListing, saidAsked}
+use Rattle.catalogue.specs.Call.{Outcome, perform, judgeAct, judgeCommit, judgeForeign, judgeObject, formatOf, callOf, commitOf, closeOf, localOf, reading, readingOf, listing, listingOf, asked, askedOf}
+use Rattle.model.proofs.Numbers.{Among, accepted, numbered, check-among, among-wider, act-among, name-among, outlist-among, format-among}
 use Rattle.catalogue.proofs.Leaving.{Ending, ended, turned, ending}
 use Rattle.heidrunok.specs.Face.{Restored, restored, saidRecovered}
 
@@ -53,11 +58,23 @@ closedAs t = Closed (t .length) (t .count) (t .freed)
 abbrev pub closingBack : Said Totals → Closing
 closingBack = readBack closedAs (λ r t. NotClosed r)
 
+abbrev freedAs : Yield → Freeing
+freedAs y = Freed (y .length) (y .freed)
+
+abbrev pub freeingBack : Said Yield → Freeing
+freeingBack = readBack freedAs (λ r y. NotFreed r)
+
 abbrev readAs : Verdict → Record → Reading
 readAs v o = record { verdict = v; object = o }
 
 abbrev pub readingBack : Said Record → Reading
 readingBack = readBack (readAs Accepted) (λ r. readAs (Refused r))
+
+abbrev listedAs : Verdict → Outlist → Listing
+listedAs v o = record { verdict = v; outlist = o }
+
+abbrev pub listingBack : Said Outlist → Listing
+listingBack = readBack (listedAs Accepted) (λ r. listedAs (Refused r))
 
 abbrev askedAs : Bool → Asked
 askedAs b = cond b Yes No
@@ -71,19 +88,28 @@ recoveredAs v x = record { verdict = v; kept = x .kept; image = x .image }
 abbrev pub recoveredBack : Said Restored → Recovered
 recoveredBack = readBack (recoveredAs Accepted) (λ r. recoveredAs (Refused r))
 
--- what holds of a length and of every refusal of the table holds of a logged call's answer
-module _ {A : Type 0} (done : ℕ → A) (refused : Refusal → A) (Q : A → Type 0) where
-  performed : ((n : ℕ) → Q (done n)) → ((r : Refusal) → 1 ≤ r .number → Q (refused r)) → (v : Verdict) → Among 1 16 v
-      → (bytes : List ℕ) (next img : Image) (log : List ℕ) (at : ℕ) → Q (perform done refused v bytes next img log at .answer)
-  performed d f v a bytes next img log at = go _ (ending done refused bytes next img log at 1 v (omega arith) a)
+-- a logged call's answer is read back where those of a length are, and a refusal is said with zeros
+module _ {A B : Type 0} (done-as : B → A) (not : Refusal → A) (say : A → Said B) (zeros : B) (done : ℕ → A) where
+  abbrev Backs : A → Type 0
+  Backs a = readBack done-as (λ r b. not r) (say a) ≡ a
+
+  performed-back : ((n : ℕ) → Backs (done n)) → ((r : Refusal) → say (not r) ≡ refusedWith zeros r) → (v : Verdict) → Among 1 16 v
+      → (bytes : List ℕ) (next img : Image) (log : List ℕ) (at : ℕ) → Backs (perform done not v bytes next img log at .answer)
+  performed-back d f v a bytes next img log at = go _ (ending done not bytes next img log at 1 v (omega arith) a)
     where
-      go : (o : Outcome A) → Ending done refused bytes next img log at 1 v o → Q (o .answer)
+      go : (o : Outcome A) → Ending done not bytes next img log at 1 v o → Backs (o .answer)
       go _ (ended j l) = d _
-      go _ (turned r l h) = f r l
+      go _ (turned r l h) = ap (readBack done-as (λ r b. not r)) (f r) ∙ refused-back done-as (λ r b. not r) r zeros l
 
 answered : (v : Verdict) → Among 1 16 v → (bytes : List ℕ) (next img : Image) (log : List ℕ) (at : ℕ)
     → let a = perform Done NotDone v bytes next img log at .answer in answerBack (said a) ≡ a
-answered = performed Done NotDone (λ a. answerBack (said a) ≡ a) (λ n. refl) (λ r l. refused-back Done (λ r n. NotDone r) r 0 l)
+answered = performed-back Done NotDone said 0 Done (λ n. refl) (λ r. refl)
+
+-- a value beside a verdict is read back with it
+module _ {A B : Type 0} (form : Verdict → B → A) where
+  beside-back : (v : Verdict) (x : B) → ((k e : ℕ) → v ≡ refuse k e → 1 ≤ k) → readBack (form Accepted) (λ r. form (Refused r)) (saidVerdict v x) ≡ form v x
+  beside-back Accepted x h = refl
+  beside-back (Refused r) x h = refused-back (form Accepted) (λ r. form (Refused r)) r x (h (r .number) (r .extra) refl)
 
 -- 1 is the call's own first check
 checked : (img : Image) (v : Verdict) → Among 6 16 v → Among 1 16 (check (isSound img) 1 0 v)
@@ -107,9 +133,27 @@ module _ (img : Image) (log : List ℕ) (at : ℕ) where
   pub close-back : let c = closeOf img log at .answer in closingBack (saidClosing c) ≡ c
   unfolding closeOf judgeAct
   close-back =
-      performed _ NotClosed (λ c. closingBack (saidClosing c) ≡ c) (λ n. refl)
-      (λ r l. refused-back closedAs (λ r t. NotClosed r) r (totals 0 0 0) l)
-      _ (checked img _ (act-among _ _ img closing)) _ _ img log at
+      performed-back closedAs NotClosed saidClosing (totals 0 0 0) _ (λ n. refl) (λ r. refl) _ (checked img _ (act-among _ _ img closing)) _ _ img log at
+
+  pub local-back : (p : Partition) → let f = localOf img p log at .answer in freeingBack (saidFreeing f) ≡ f
+  unfolding localOf judgeAct
+  local-back p =
+      performed-back freedAs NotFreed saidFreeing (yield 0 0) _ (λ n. refl) (λ r. refl) _ (checked img _ (act-among _ _ img (local (p .0)))) _ _ img log at
+
+-- no verdict has the number 0
+among-number : (v : Verdict) (k e : ℕ) → Among 1 16 v → v ≡ refuse k e → 1 ≤ k
+among-number Accepted k e accepted j = let z : _≡_ {A = ℕ} 0 1 = cc in absurd (omega arith)
+among-number (Refused _) k e (numbered r l h) j = let z : r .number ≡ k = cc in omega arith
+
+pub outlist-back : (img : Image) (p : Partition) → let x = listingOf img p in listingBack (saidListing x) ≡ x
+unfolding listingOf judgeForeign
+outlist-back img p =
+    beside-back listedAs (listingOf img p .verdict) (listingOf img p .outlist)
+    (λ k e j. among-number _ k e (checked img _ (among-wider 6 16 _ (omega arith) (omega arith) (outlist-among _ (p .0)))) (sym (same (judgeForeign img p) _) ∙ j))
+  where
+    same : (v : Verdict) (o : Outlist) → listing v o .verdict ≡ v
+    same Accepted o = refl
+    same (Refused r) o = refl
 
 module _ (img : Image) (n : Name) where
   object-among : Among 1 16 (judgeObject img n)
@@ -118,11 +162,13 @@ module _ (img : Image) (n : Name) where
 
   pub read-back : let x = readingOf img n in readingBack (saidReading x) ≡ x
   unfolding readingOf
-  read-back = go (judgeObject img n) _ object-among
+  read-back =
+      beside-back readAs (readingOf img n .verdict) (readingOf img n .object)
+      (λ k e j. among-number _ k e object-among (sym (same (judgeObject img n) _) ∙ j))
     where
-      go : (v : Verdict) (o : Record) → Among 1 16 v → readingBack (saidReading (reading v o)) ≡ reading v o
-      go Accepted o accepted = refl
-      go (Refused _) o (numbered r l h) = refused-back (readAs Accepted) (λ r. readAs (Refused r)) r blankRecord l
+      same : (v : Verdict) (o : Record) → reading v o .verdict ≡ v
+      same Accepted o = refl
+      same (Refused r) o = refl
 
   pub ask-back : let a = askedOf img n in askedBack (saidAsked a) ≡ a
   unfolding askedOf
@@ -134,10 +180,6 @@ module _ (img : Image) (n : Name) where
       go (Refused _) b (numbered r l h) = refused-back askedAs (λ r b. NotAsked r) r false l
 
 -- the numbers of the table of refused logs
-among-number : (v : Verdict) (k e : ℕ) → Among 6 16 v → v ≡ refuse k e → 1 ≤ k
-among-number Accepted k e accepted j = let z : _≡_ {A = ℕ} 0 1 = cc in absurd (omega arith)
-among-number (Refused _) k e (numbered r l h) j = let z : r .number ≡ k = cc in omega arith
-
 log-number : {len : ℕ} {log : List ℕ} {k l : ℕ} → Refuses len log k l → 1 ≤ k
 log-number (no-line _ u) = omega arith
 log-number (no-heading body rest u n) = omega arith
@@ -145,13 +187,9 @@ log-number (wrong-size h rest i j) = omega arith
 log-number (no-shape b body rest u n) = omega arith
 log-number (misplaced b i rest s m) = omega arith
 log-number (miscounted b i rest s p m) = omega arith
-log-number (refused-act a b rest s p k e j) = among-number _ k e (act-among _ _ _ a) j
+log-number (refused-act a b rest s p k e j) = among-number _ k e (among-wider 1 16 _ (omega arith) (omega arith) (act-among _ _ _ a)) j
 log-number (long-tail b tail u long) = omega arith
 
 pub recover-back : (log : List ℕ) (len : ℕ) → Bytes log → recoveredBack (saidRecovered (recoverOf log len)) ≡ recoverOf log len
 recover-back log len b =
-    go (recoverOf log len .verdict) (restored (recoverOf log len .kept) (recoverOf log len .image)) (λ k l e. log-number (refused-so log len b k l e))
-  where
-    go : (v : Verdict) (x : Restored) → ((k l : ℕ) → v ≡ refuse k l → 1 ≤ k) → recoveredBack (saidRecovered (recoveredAs v x)) ≡ recoveredAs v x
-    go Accepted x h = refl
-    go (Refused r) x h = refused-back (recoveredAs Accepted) (λ r. recoveredAs (Refused r)) r x (h (r .number) (r .extra) refl)
+    beside-back recoveredAs (recoverOf log len .verdict) (restored (recoverOf log len .kept) (recoverOf log len .image)) (λ k l e. log-number (refused-so log len b k l e))

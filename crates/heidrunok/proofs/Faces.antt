@@ -24,7 +24,7 @@ use Rattle.recovery.specs.declared.Recovery.{Recovery}
 use Rattle.recovery.specs.declared.Recovery.the-variants.{Kept, Refused as NotKept}
 use Rattle.catalogue.specs.declared.Answer.{Answer}
 use Rattle.catalogue.specs.declared.Answer.the-variants.{Done, Refused as NotDone}
-use Rattle.catalogue.specs.Answers.{Said, totals, said}
+use Rattle.catalogue.specs.Answers.{Said, totals, yield, said}
 use Rattle.catalogue.specs.Call.{Outcome, outcome, perform, judgeIn, applyIn, judgeCommit, commitOf}
 use Rattle.heidrunok.specs.Face.{told, seen, restored, saidRecovered, operationOf, commitBy}
 
@@ -40,6 +40,9 @@ module _ {B : Type 0} (more : ℕ → B) where
 
 pub totals-told : (n e v t f : ℕ) (s : Said ℕ) → told n e v ≡ s → told n e (totals v t f) ≡ told (s .number) (s .extra) (totals (s .value) t f)
 totals-told n e v t f = told-more (λ k. totals k t f) n e v
+
+pub yield-told : (n e v f : ℕ) (s : Said ℕ) → told n e v ≡ s → told n e (yield v f) ≡ told (s .number) (s .extra) (yield (s .value) f)
+yield-told n e v f = told-more (λ k. yield k f) n e v
 
 abbrev answerOf : Recovery → Answer
 answerOf (Kept k) = Done k

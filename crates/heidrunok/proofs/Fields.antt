@@ -9,25 +9,29 @@ use lib.Dec.{eqb}
 use lib.ListN.{getD}
 use borrow.Author.Tests.{eqb-false}
 use Rattle.kinds.specs.Names.{radix, named, Named, targetOf, wordOf}
-use Rattle.kinds.specs.Answers.{blankField, blankRecord}
+use Rattle.kinds.specs.Answers.{blankField, blankRecord, noNames}
 use Rattle.kinds.specs.declared.Name.{Name}
 use Rattle.kinds.specs.declared.Field.{Field}
+use Rattle.kinds.specs.declared.Partition.{Partition}
 use Rattle.kinds.specs.declared.Record.{Record}
+use Rattle.kinds.specs.declared.Outlist.{Outlist}
 use Rattle.kinds.specs.declared.Target.the-variants.{Nothing, Object}
 use Rattle.kinds.specs.declared.Verdict.{Verdict}
 use Rattle.kinds.specs.declared.Verdict.the-variants.{Accepted, Refused}
 use Rattle.kinds.proofs.Names.{word-target}
 use Rattle.model.specs.Image.{Image, Key, payload, field, partitions, slots, get, place, Holder, a-field}
-use Rattle.model.specs.Judge.{check, judgeName}
+use Rattle.model.specs.Judge.{check, judgeName, judgeOutlist}
 use Rattle.model.specs.Questions.{readOf}
+use Rattle.model.specs.Outlist.{outlist}
 use Rattle.model.specs.Sound.{Sound, NamesUsed}
 use Rattle.model.proofs.Soundness.{sound-true}
 use Rattle.catalogue.specs.declared.Asked.{Asked}
 use Rattle.catalogue.specs.declared.Reading.{Reading}
-use Rattle.catalogue.specs.Answers.{Said, saidReading, saidAsked}
-use Rattle.catalogue.specs.Call.{judgeObject, reading, readingOf, asked, askedOf}
+use Rattle.catalogue.specs.declared.Listing.{Listing}
+use Rattle.catalogue.specs.Answers.{Said, saidReading, saidAsked, saidListing}
+use Rattle.catalogue.specs.Call.{judgeObject, judgeForeign, reading, readingOf, asked, askedOf, listing, listingOf}
 use Rattle.catalogue.proofs.Judged.{object-sound, object-in}
-use Rattle.heidrunok.specs.Face.{told, numberOf, fieldOf, recordOf}
+use Rattle.heidrunok.specs.Face.{told, numberOf, fieldOf, recordOf, outlistOf}
 use Rattle.heidrunok.proofs.Faces.{told-plain}
 
 -- no question has an extra answer
@@ -43,6 +47,10 @@ check-plain false n v e = refl
 object-plain : (img : Image) (n : Name) → extraOf (judgeObject img n) ≡ 0
 unfolding judgeObject judgeName
 object-plain img n = check-plain _ 1 _ (check-plain _ 7 _ (check-plain _ 9 _ refl))
+
+foreign-plain : (img : Image) (p : Partition) → extraOf (judgeForeign img p) ≡ 0
+unfolding judgeForeign judgeOutlist
+foreign-plain img p = check-plain _ 1 _ (check-plain _ 7 _ refl)
 
 -- ask, from the answer that the code has in hand
 pub ask-told : (img : Image) (m n : Name) (a b : Asked) → a ≡ askedOf img m → m ≡ n → a ≡ b
@@ -124,6 +132,19 @@ read-told img m n x k a b c d e f p s t u w =
     go : (v : Verdict) → extraOf v ≡ 0 → back (reading v (readOf img (place (get img slots) n))) ≡ saidReading (reading v (readOf img (place (get img slots) n)))
     go Accepted e = ap (told 0 0) (record-back Accepted img _)
     go (Refused r) e = ap (told (r .number) 0) (record-back (Refused r) img 0) ∙ (λ i. told (r .number) (sym e i) blankRecord)
+
+-- outlist, from the parts that the code has in hand
+pub listing-told : (img : Image) (p : Partition) (x : Listing) (k n : ℕ) → x ≡ listingOf img p → k ≡ numberOf (x .verdict) → n ≡ x .outlist .number
+    → told k 0 (outlistOf n (x .outlist .names)) ≡ saidListing (listingOf img p)
+unfolding listingOf
+listing-told img p x k n e q s = rw (q, s) (ap back e ∙ go (judgeForeign img p) (outlist (get img partitions) (get img slots) (p .0) img) (foreign-plain img p))
+  where
+    back : Listing → Said Outlist
+    back y = told (numberOf (y .verdict)) 0 (y .outlist)
+
+    go : (v : Verdict) (o : Outlist) → extraOf v ≡ 0 → back (listing v o) ≡ saidListing (listing v o)
+    go Accepted o e = refl
+    go (Refused r) o e = λ i. told (r .number) (sym e i) noNames
 
 -- one payload and one list of words for a record
 words-back : (ws : List ℕ) → map (λ (f : Field). wordOf (f .target)) (map fieldOf ws) ≡ ws

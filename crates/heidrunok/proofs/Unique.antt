@@ -8,9 +8,9 @@ use borrow.Fn.Kinds.{Dens, resT, endedOf}
 use denote.Triple.Clauses.{AtExit}
 use denote.Ref.{now}
 use Rattle.kinds.specs.declared.Record.{Record}
-use Rattle.catalogue.specs.Answers.{Said, totals}
+use Rattle.catalogue.specs.Answers.{Said, totals, yield}
 use Rattle.catalogue.proofs.Unique.{Once, once}
-use Rattle.heidrunok.specs.Face.{told, restored}
+use Rattle.heidrunok.specs.Face.{told, restored, outlistOf}
 use Rattle.heidrunok.proofs.Fields.{record-once}
 use Rattle.heidrunok.proofs.heidrunok_format.Kinds as format
 use Rattle.heidrunok.proofs.heidrunok_format.Reads as format-reads
@@ -22,12 +22,16 @@ use Rattle.heidrunok.proofs.heidrunok_trace.Kinds as trace
 use Rattle.heidrunok.proofs.heidrunok_trace.Reads as trace-reads
 use Rattle.heidrunok.proofs.heidrunok_close.Kinds as close
 use Rattle.heidrunok.proofs.heidrunok_close.Reads as close-reads
+use Rattle.heidrunok.proofs.heidrunok_local.Kinds as local
+use Rattle.heidrunok.proofs.heidrunok_local.Reads as local-reads
 use Rattle.heidrunok.proofs.heidrunok_recover.Kinds as recover
 use Rattle.heidrunok.proofs.heidrunok_recover.Reads as recover-reads
 use Rattle.heidrunok.proofs.heidrunok_read.Kinds as read
 use Rattle.heidrunok.proofs.heidrunok_read.Reads as read-reads
 use Rattle.heidrunok.proofs.heidrunok_ask.Kinds as ask
 use Rattle.heidrunok.proofs.heidrunok_ask.Reads as ask-reads
+use Rattle.heidrunok.proofs.heidrunok_outlist.Kinds as outlist
+use Rattle.heidrunok.proofs.heidrunok_outlist.Reads as outlist-reads
 
 pub format-once : (κs : Lfts 4) (xs : Dens κs format.ps) (a b : resT format.r κs .Denot) (s t : AtExit (endedOf 4 format.ps format.r) κs)
     → format-reads.Post κs xs a s → format-reads.Post κs xs b t
@@ -59,12 +63,18 @@ pub close-once : (κs : Lfts 6) (xs : Dens κs close.ps) (a b : resT close.r κs
     (told b (now (t .1 .1 .1 .1 .1 .1 .0)) (totals (now (t .1 .1 .1 .0)) (now (t .1 .1 .1 .1 .0)) (now (t .1 .1 .1 .1 .1 .0)))) (now (s .0)) (now (t .0)) (now (s .1 .0)) (now (t .1 .0))
 close-once κs xs a b s t p q = once _ _ _ _ _ _ _ p q
 
+pub local-once : (κs : Lfts 5) (xs : Dens κs local.ps) (a b : resT local.r κs .Denot) (s t : AtExit (endedOf 5 local.ps local.r) κs)
+    → local-reads.Post κs xs a s → local-reads.Post κs xs b t
+    → Once (told a (now (s .1 .1 .1 .1 .1 .1 .0)) (yield (now (s .1 .1 .1 .1 .0)) (now (s .1 .1 .1 .1 .1 .0))))
+    (told b (now (t .1 .1 .1 .1 .1 .1 .0)) (yield (now (t .1 .1 .1 .1 .0)) (now (t .1 .1 .1 .1 .1 .0)))) (now (s .0)) (now (t .0)) (now (s .1 .1 .0)) (now (t .1 .1 .0))
+local-once κs xs a b s t p q = once _ _ _ _ _ _ _ p q
+
 pub recover-once : (κs : Lfts 4) (xs : Dens κs recover.ps) (a b : resT recover.r κs .Denot) (s t : AtExit (endedOf 4 recover.ps recover.r) κs)
     → recover-reads.Post κs xs a s → recover-reads.Post κs xs b t
     → told a (now (s .1 .1 .1 .0)) (restored (now (s .1 .1 .0)) (now (s .0))) ≡ told b (now (t .1 .1 .1 .0)) (restored (now (t .1 .1 .0)) (now (t .0)))
 recover-once κs xs a b s t p q = p ∙ sym q
 
--- read and ask are lent an image that they cannot change
+-- read, ask and outlist are lent an image that they cannot change
 pub record ReadOnce (a b v w : ℕ) (xs ys : List ℕ) : Type 0 where
   pub number : a ≡ b
   pub payload : v ≡ w
@@ -82,3 +92,8 @@ pub ask-once : (κs : Lfts 2) (xs : Dens κs ask.ps) (a b : resT ask.r κs .Deno
     → ask-reads.Post κs xs a s → ask-reads.Post κs xs b t
     → told a 0 (now (s .1 .1 .1 .0)) ≡ told b 0 (now (t .1 .1 .1 .0))
 ask-once κs xs a b s t p q = p ∙ sym q
+
+pub outlist-once : (κs : Lfts 3) (xs : Dens κs outlist.ps) (a b : resT outlist.r κs .Denot) (s t : AtExit (endedOf 3 outlist.ps outlist.r) κs)
+    → outlist-reads.Post κs xs a s → outlist-reads.Post κs xs b t
+    → told a 0 (outlistOf (now (s .1 .1 .0)) (now (s .1 .1 .1 .0))) ≡ told b 0 (outlistOf (now (t .1 .1 .0)) (now (t .1 .1 .1 .0)))
+outlist-once κs xs a b s t p q = p ∙ sym q

@@ -7,6 +7,7 @@ use lib.ListN.{length, getD}
 use Rattle.kinds.specs.Names.{named, roots, targetOf}
 use Rattle.kinds.specs.declared.Field.{Field}
 use Rattle.kinds.specs.declared.Record.{Record}
+use Rattle.kinds.specs.declared.Outlist.{Outlist}
 use Rattle.kinds.specs.declared.Target.the-variants.{Nothing, Object}
 use Rattle.kinds.specs.declared.Operation.{Operation}
 use Rattle.kinds.specs.declared.Operation.the-variants.{New, Set, Val, Root}
@@ -69,3 +70,7 @@ fieldOf w = record { target = targetOf w }
 -- the record whose payload and words of fields these are
 abbrev pub recordOf : ℕ → List ℕ → Record
 recordOf v ws = record { payload = v; fields = map fieldOf ws }
+
+-- the outlist of so many names, and these words
+abbrev pub outlistOf : ℕ → List ℕ → Outlist
+outlistOf n ws = record { number = n; names = ws }

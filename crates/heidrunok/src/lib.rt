@@ -1,4 +1,4 @@
-// The catalogue's eight calls for C and Rust: `rt staticlib heidrunok` proves this crate and writes target/staticlib/libheidrunok.a
+// The catalogue's ten calls for C and Rust: `rt staticlib heidrunok` proves this crate and writes target/staticlib/libheidrunok.a
 // (bindings/README.md). A slice is a pointer and a length. Each call returns the paper's number, 0 where it is accepted, and writes what it
 // answers through its last pointers: zeros where it is refused, but for the extra answer. None has a `requires`; each has one `ensures`,
 // an equation with the definition that the same call's contract cites in `catalogue` or `recovery`, its answer said in numbers
@@ -7,9 +7,11 @@
 use catalogue::Answer;
 use catalogue::Asked;
 use catalogue::Closing;
+use catalogue::Freeing;
 use kinds::Field;
 use kinds::Name;
 use kinds::Operation;
+use kinds::Outlist;
 use kinds::Partition;
 use kinds::Slot;
 use kinds::Target;
@@ -19,10 +21,10 @@ ghost use mathlib.Core.Path.{_≡_};
 ghost use Prim.Native.Nat.{_≤_};
 ghost use lib.ListN.{length};
 ghost use Rattle.kinds.specs.Names.{mostOperations, named, wordOf, Named};
-ghost use Rattle.catalogue.specs.Answers.{totals, said, saidClosing, saidReading, saidAsked};
-ghost use Rattle.catalogue.specs.Call.{outcome, formatOf, openOf, traceOf, closeOf, readingOf, askedOf};
+ghost use Rattle.catalogue.specs.Answers.{totals, yield, said, saidClosing, saidFreeing, saidReading, saidAsked, saidListing};
+ghost use Rattle.catalogue.specs.Call.{outcome, formatOf, openOf, traceOf, closeOf, localOf, readingOf, askedOf, listingOf};
 ghost use Rattle.journal.specs.Recover.{recoverOf};
-ghost use Rattle.heidrunok.specs.Face.{told, seen, numberOf, restored, saidRecovered, operationOf, commitBy, recordOf};
+ghost use Rattle.heidrunok.specs.Face.{told, seen, numberOf, restored, saidRecovered, operationOf, commitBy, recordOf, outlistOf};
 
 // How many words an operation takes: its kind, and up to five numbers.
 const WORDS: usize = 6;
@@ -170,6 +172,31 @@ pub extern "C" fn heidrunok_close(
     }
 }
 
+// Also the number freed.
+#[no_mangle]
+pub extern "C" fn heidrunok_local(
+    img: &mut [u32],
+    t: u32,
+    log: &mut [u8],
+    at: usize,
+    length: &mut usize,
+    freed: &mut usize,
+    extra: &mut usize,
+) -> u32
+    ensures { λ r. ⌜ outcome (told r (now (extra .exit)) (yield (now (length .exit)) (now (freed .exit)))) (now (img .exit)) (now (log .exit)) ≡ seen saidFreeing (localOf (now (img .entry)) (record { 0 = t }) (now (log .entry)) at) ⌝ }
+{
+    match catalogue::local(img, Partition(t), log, at) {
+        Freeing::Freed(n, k) => {
+            *freed = k;
+            return tell(Answer::Done(n), length, extra);
+        }
+        Freeing::Refused(r) => {
+            *freed = 0;
+            return tell(Answer::Refused(r), length, extra);
+        }
+    }
+}
+
 // The extra answer is the line.
 #[no_mangle]
 pub extern "C" fn heidrunok_recover(
@@ -246,4 +273,23 @@ pub extern "C" fn heidrunok_ask(img: &[u32], p: u32, s: u32, yes: &mut bool) -> 
             return r.number;
         }
     }
+}
+
+// How many names of other partitions' objects the partition's objects hold, and these names in order; unused ones are 0.
+#[no_mangle]
+pub extern "C" fn heidrunok_outlist(
+    img: &[u32],
+    t: u32,
+    held: &mut usize,
+    names: &mut [u32; Outlist::LIMIT],
+) -> u32
+    ensures { λ r. ⌜ told r 0 (outlistOf (now (held .exit)) (now (names .exit))) ≡ saidListing (listingOf (now (img .entry)) (record { 0 = t })) ⌝ }
+{
+    let x = catalogue::outlist(img, Partition(t));
+    let o = x.outlist;
+    *held = o.number;
+    let words = o.names;
+    *names = words;
+    let v = x.verdict;
+    number(v)
 }

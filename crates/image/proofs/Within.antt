@@ -12,10 +12,11 @@ use lib.ListN.{length}
 use borrow.Author.Tests.{eqb-true, eqb-false}
 use Rattle.loops.proofs.Tests.{both-true, clash}
 use Rattle.kinds.specs.Names.{mostPartitions, mostSlots, radix}
-use Rattle.model.specs.Image.{Image, Key, head, root, flag, state, payload, field, addr, get, put, placeOf, partOf, refer, release, Holder, a-root, a-field}
+use Rattle.model.specs.Image.{Image, Key, head, root, flag, state, payload, inlist, field, addr, get, put, placeOf, partOf, refer, release, Holder, a-root, a-field}
 use Rattle.model.specs.Acts.{mark, markWord}
-use Rattle.model.specs.Sound.{SoundAt, NamesUsed}
+use Rattle.model.specs.Sound.{SoundAt, NamesUsed, Right}
 use Rattle.model.proofs.Keys.{Fits, In, Sized, same, touches, get-put-apart, sized-put, sized-length, refer-apart, refer-same, sized-refer, release-apart, release-same, sized-release}
+use Rattle.model.proofs.Counting.{right-put, right-refer, right-release}
 use Rattle.image.specs.Within.{Within}
 
 -- a key that holds no reference
@@ -25,6 +26,7 @@ Plain (root r) = ⊥
 Plain (flag p) = p < mostPartitions
 Plain (state j) = Unit {0}
 Plain (payload j) = Unit {0}
+Plain (inlist j) = ⊥
 Plain (field j k) = ⊥
 
 -- a reference word that leads to one of n places, if to any
@@ -37,6 +39,7 @@ plain-fits (root r) f = absurd f
 plain-fits (flag p) f = f
 plain-fits (state j) f = tt
 plain-fits (payload j) f = tt
+plain-fits (inlist j) f = absurd f
 plain-fits (field j k) f = absurd f
 
 plain-apart : (n : ℕ) (κ μ : Key) → Plain κ → Holder n μ → same κ μ ≡ false
@@ -49,7 +52,27 @@ plain-apart n (state i) (root r) f (a-root l) = refl
 plain-apart n (state i) (field j k) f (a-field l m) = refl
 plain-apart n (payload i) (root r) f (a-root l) = refl
 plain-apart n (payload i) (field j k) f (a-field l m) = refl
+plain-apart n (inlist j) μ f h = absurd f
 plain-apart n (field j k) μ f h = absurd f
+
+-- nor a count
+plain-count : (κ : Key) → Plain κ → (i : ℕ) → same κ (inlist i) ≡ false
+plain-count (head h) f i = refl
+plain-count (root r) f i = absurd f
+plain-count (flag p) f i = refl
+plain-count (state j) f i = refl
+plain-count (payload j) f i = refl
+plain-count (inlist j) f i = absurd f
+plain-count (field j k) f i = absurd f
+
+plain-field : (κ : Key) → Plain κ → (j k : ℕ) → same κ (field j k) ≡ false
+plain-field (head h) f j k = refl
+plain-field (root r) f j k = absurd f
+plain-field (flag p) f j k = refl
+plain-field (state i) f j k = refl
+plain-field (payload i) f j k = refl
+plain-field (inlist i) f j k = absurd f
+plain-field (field i c) f j k = absurd f
 
 pub holder-in : (n : ℕ) (κ : Key) → Holder n κ → In n κ
 holder-in n (root r) (a-root l) = l
@@ -95,14 +118,15 @@ module _ (P S : ℕ) (x : Image) where
         small = h .partitions-most;
         wide = h .slots-most;
         long = sized-length P S x (h .length-agrees);
+        right = h .right;
         refs = λ κ i n. let u : NamesUsed P S x κ = h .references κ i n in word-in P S (get x κ) (u .partition) (u .slot);
       }
 
   module _ (h : Within P S x) where
     -- any change of words that keeps the length and leaves references that lead to places
-    moved : (y : Image) → Sized (P * S) y → ((μ : Key) → Holder (P * S) μ → Leads (P * S) S (get y μ)) → Within P S y
+    moved : (y : Image) → Sized (P * S) y → Right (P * S) S y → ((μ : Key) → Holder (P * S) μ → Leads (P * S) S (get y μ)) → Within P S y
     unfolding Sized
-    moved y z r = record { some-slot = h .some-slot; small = h .small; wide = h .wide; long = z; refs = r }
+    moved y z c r = record { some-slot = h .some-slot; small = h .small; wide = h .wide; long = z; right = c; refs = r }
 
     sized : Sized (P * S) x
     unfolding Sized
@@ -113,11 +137,11 @@ module _ (P S : ℕ) (x : Image) where
 
     pub within-put : (κ : Key) (v : ℕ) → Plain κ → Within P S (put x κ v)
     within-put κ v f =
-        moved (put x κ v) (sized-put (P * S) x κ v sized)
+        moved (put x κ v) (sized-put (P * S) x κ v sized) (right-put (P * S) S x κ v (plain-fits κ f) (plain-field κ f) (plain-count κ f) (h .right))
         (λ μ i. kept (put x κ v) μ i (get-put-apart x κ v μ (plain-fits κ f) (holder-fits (P * S) μ i) (plain-apart (P * S) κ μ f i)))
 
     pub within-refer : (κ : Key) (w : ℕ) → Holder (P * S) κ → Leads (P * S) S w → Within P S (refer S x κ w)
-    within-refer κ w k r = moved (refer S x κ w) (sized-refer (P * S) S x κ w sized) (λ μ i. go μ i (touches κ μ) refl)
+    within-refer κ w k r = moved (refer S x κ w) (sized-refer (P * S) S x κ w sized) (right-refer (P * S) S x κ w k sized (h .right)) (λ μ i. go μ i (touches κ μ) refl)
       where
         go : (μ : Key) → Holder (P * S) μ → (b : Bool) → touches κ μ ≡ b → Leads (P * S) S (get (refer S x κ w) μ)
         go μ i true e =
@@ -126,7 +150,7 @@ module _ (P S : ℕ) (x : Image) where
         go μ i false e = kept (refer S x κ w) μ i (refer-apart S x κ w μ (holder-fits (P * S) κ k) (holder-fits (P * S) μ i) e)
 
     pub within-release : (κ : Key) → Holder (P * S) κ → Within P S (release S x κ)
-    within-release κ k = moved (release S x κ) (sized-release (P * S) S x κ sized) (λ μ i. go μ i (touches κ μ) refl)
+    within-release κ k = moved (release S x κ) (sized-release (P * S) S x κ sized) (right-release (P * S) S x κ k sized (h .right)) (λ μ i. go μ i (touches κ μ) refl)
       where
         go : (μ : Key) → Holder (P * S) μ → (b : Bool) → touches κ μ ≡ b → Leads (P * S) S (get (release S x κ) μ)
         go μ i true e =

@@ -1,20 +1,27 @@
-// The image as code: places, marks, the two ways in which a reference changes, and format, over lent words. Each function is proved
-// equal to the model's definition of the same name. An inner function asks for an address in range, not for a sound image; what keeps every
-// reference in range is `Within` (specs/Within.antt), which follows from soundness and is kept by every move (proofs/Within.antt).
+// The image as code: places, marks, the two ways in which a reference changes and what they do to counts, and format, over lent words. Each
+// function is proved equal to the model's definition of the same name. An inner function asks for an address in range, not for a
+// sound image; what keeps every reference in range and every count right is `Within` (specs/Within.antt), which follows from soundness and is
+// kept by every move (proofs/Within.antt).
 ghost use mathlib.Core.Path.{_≡_};
 ghost use mathlib.Core.Logic.{_≢_};
 ghost use Prim.Native.Nat.{_*_, _^_, _<_, _≤_};
 ghost use lib.ListN.{length, replicate};
 ghost use Rattle.kinds.specs.Names.{mostPartitions, mostSlots};
-ghost use Rattle.model.specs.Image.{root, state, field, addr, lengthOf, size, blank, place, placeOf, partOf, refer, release};
+ghost use Rattle.model.specs.Image.{root, state, field, addr, lengthOf, size, blank, place, placeOf, partOf, lose, gain, refer, release};
 ghost use Rattle.model.specs.Judge.{judgeFormat};
 ghost use Rattle.model.specs.Acts.{mark, markWord};
-ghost use Rattle.image.specs.Within.{Within};
+ghost use Rattle.image.specs.Within.{Within, countAt, Loses, Gains};
 
 // The words before the slots, and the words of a slot.
 pub const FRONT: usize = 37;
 
-pub const STRIDE: usize = 6;
+pub const STRIDE: usize = 7;
+
+// The count of a slot is its last word.
+pub const INLIST: usize = 6;
+
+// The words of the largest image.
+pub const WORDS: usize = FRONT + STRIDE * (kinds::Partition::LIMIT * kinds::Slot::LIMIT) as usize;
 
 // The holders that are no fields.
 pub const ANCHORS: usize = 16;
@@ -85,20 +92,75 @@ pub fn refer_root(img: &mut [u32], s: usize, r: usize, w: u32)
     img[ROOT + r] = w;
 }
 
-// A field takes a reference.
-pub fn refer_field(img: &mut [u32], s: usize, j: usize, k: usize, w: u32)
-    requires { ⌜ addr (field j k) < length (now img) ⌝ }
-    ensures { λ _. ⌜ now (img .exit) ≡ refer s (now (img .entry)) (field j k) w ⌝ }
+// Where the count stands of what a word in a field of the object at j names, if that is in another partition; else 0, where no count stands.
+fn count_at(s: usize, j: usize, w: u32) -> usize
+    requires { ⌜ (0 < s) × (s ≤ mostSlots) ⌝ }
+    ensures { λ r. ⌜ r ≡ countAt s j w ⌝ }
 {
-    img[FRONT + STRIDE * j + 2 + k] = w;
+    if w == 0 {
+        return 0;
+    }
+    let t = place_of(w, s);
+    if t / s == j / s {
+        return 0;
+    }
+    FRONT + STRIDE * t + INLIST
 }
 
-// A freed object's reference goes.
-pub fn release_field(img: &mut [u32], s: usize, j: usize, k: usize)
-    requires { ⌜ addr (field j k) < length (now img) ⌝ }
+// A field of the object at j loses a word: what it names in another partition is counted once less.
+fn lose(img: &mut [u32], s: usize, j: usize, w: u32)
+    requires { ⌜ Loses s j w (now img) ⌝ }
+    ensures { λ _. ⌜ now (img .exit) ≡ lose s j w (now (img .entry)) ⌝ }
+{
+    let at = count_at(s, j, w);
+    if at == 0 {
+        return;
+    }
+    img[at] = img[at] - 1;
+}
+
+// It gains a word: what it names there is counted once more.
+fn gain(img: &mut [u32], s: usize, j: usize, w: u32)
+    requires { ⌜ Gains s j w (now img) ⌝ }
+    ensures { λ _. ⌜ now (img .exit) ≡ gain s j w (now (img .entry)) ⌝ }
+{
+    let at = count_at(s, j, w);
+    if at == 0 {
+        return;
+    }
+    img[at] = img[at] + 1;
+}
+
+// A field takes a reference: the count of what it named falls, then that of what it names rises.
+pub fn refer_field(img: &mut [u32], p: usize, s: usize, j: usize, k: usize, w: u32)
+    requires { ⌜ Within p s (now img) ⌝ }
+    requires { ⌜ (j < p * s) × (k < 4) × (w ≢ 0 → placeOf s w < p * s) ⌝ }
+    ensures { λ _. ⌜ now (img .exit) ≡ refer s (now (img .entry)) (field j k) w ⌝ }
+{
+    let at = FRONT + STRIDE * j + 2 + k;
+    let old = img[at];
+    lose(&mut *img, s, j, old);
+    gain(&mut *img, s, j, w);
+    img[at] = w;
+}
+
+// A freed object's reference goes, and the count of what it named falls.
+pub fn release_field(img: &mut [u32], p: usize, s: usize, j: usize, k: usize)
+    requires { ⌜ Within p s (now img) ⌝ }
+    requires { ⌜ (j < p * s) × (k < 4) ⌝ }
     ensures { λ _. ⌜ now (img .exit) ≡ release s (now (img .entry)) (field j k) ⌝ }
 {
-    img[FRONT + STRIDE * j + 2 + k] = 0;
+    let at = FRONT + STRIDE * j + 2 + k;
+    let old = img[at];
+    lose(&mut *img, s, j, old);
+    img[at] = 0;
+}
+
+// As many zeros as there can be places.
+pub fn zeros() -> [u32; 1024]
+    ensures { λ r. ⌜ r ≡ replicate 1024 0 ⌝ }
+{
+    [0u32; 1024]
 }
 
 // All words become 0.

@@ -1,9 +1,11 @@
--- Answers: refusals, and the record of a refusal.
+-- Answers: refusals, and the record and the outlist of a refusal.
 use Prim.Native.Nat.{ℕ}
 use mathlib.Core.List.{[], _∷_}
+use lib.ListN.{replicate}
 use Rattle.kinds.specs.declared.Target.the-variants.{Nothing}
 use Rattle.kinds.specs.declared.Field.{Field}
 use Rattle.kinds.specs.declared.Record.{Record}
+use Rattle.kinds.specs.declared.Outlist.{Outlist}
 use Rattle.kinds.specs.declared.Verdict.{Verdict}
 use Rattle.kinds.specs.declared.Verdict.the-variants.{Refused}
 
@@ -17,3 +19,7 @@ blankField = record { target = Nothing }
 
 abbrev pub blankRecord : Record
 blankRecord = record { payload = 0; fields = blankField ∷ blankField ∷ blankField ∷ blankField ∷ [] }
+
+-- number 0 and 256 zeros
+abbrev pub noNames : Outlist
+noNames = record { number = 0; names = replicate 256 0 }

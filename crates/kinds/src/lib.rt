@@ -1,9 +1,9 @@
 // The kinds of things that the catalogue speaks of, with their limits: partitions, slots, names of objects, targets of references,
-// fields, records, operations, refusals; and names as words. That a word and its target invert each other and that words are in the
+// fields, records, outlists, operations, refusals; and names as words. That a word and its target invert each other and that words are in the
 // order of names is proved once, for any multiplier above the largest slot number, in proofs/Names.antt.
 ghost use mathlib.Core.Path.{_≡_};
 ghost use Rattle.kinds.specs.Names.{wordOf, targetOf, Named};
-ghost use Rattle.kinds.specs.Answers.{blankRecord, refuse};
+ghost use Rattle.kinds.specs.Answers.{blankRecord, noNames, refuse};
 
 // A partition's number.
 pub struct Partition(pub u32);
@@ -53,6 +53,18 @@ impl Field {
 pub struct Record {
     pub payload: u32,
     pub fields: [Field; 4],
+}
+
+// A partition's outlist: how many names of other partitions' objects its objects hold, and these names as reference words in order,
+// unused ones 0.
+pub struct Outlist {
+    pub number: usize,
+    pub names: [u32; Outlist::LIMIT],
+}
+
+impl Outlist {
+    // The most names: four fields of each of 64 slots.
+    pub const LIMIT: usize = 256;
 }
 
 // An operation of a commit. A clr is a set to nothing, and an unroot a root to nothing.
@@ -163,5 +175,15 @@ pub fn blank() -> Record
     Record {
         payload: 0,
         fields: [f, f, f, f],
+    }
+}
+
+// The outlist of a refusal: number 0 and 256 zeros.
+pub fn no_names() -> Outlist
+    ensures { λ r. ⌜ r ≡ noNames ⌝ }
+{
+    Outlist {
+        number: 0,
+        names: [0u32; Outlist::LIMIT],
     }
 }

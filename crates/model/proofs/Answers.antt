@@ -8,18 +8,20 @@ use Rattle.kinds.specs.Names.{wordOf}
 use Rattle.kinds.specs.Operations.{new, set-to, val, root-to, unroot, three}
 use Rattle.kinds.specs.declared.Verdict.{Verdict}
 use Rattle.kinds.specs.declared.Verdict.the-variants.{Accepted, Refused}
-use Rattle.model.specs.Image.{Image, count, allowance, addr, get, put, lengthOf, blank, placeOf, partOf, refer, release}
+use Rattle.model.specs.Image.{Image, count, allowance, inlist, addr, get, put, lengthOf, blank, placeOf, partOf, abroad, lose, gain, recount, refer, release}
 use Rattle.model.specs.Spread.{follow, pass, spread}
-use Rattle.model.specs.Acts.{Act, commit, opening, closing, trace, mark, markWord, store, born, perform, performAll, unmarked, notClean, unclean, markRoots, allow, openUp, inside, outside, finish, traceOne, clear, settle, shut, closeUp, apply}
+use Rattle.model.specs.Acts.{Act, commit, opening, closing, trace, local, localStart, localBits, freeBut, localUp, localFreed, mark, markWord, store, born, perform, performAll, unmarked, notClean, unclean, markRoots, allow, openUp, inside, outside, finish, traceOne, clear, settle, shut, closeUp, apply}
 use Rattle.model.specs.Judge.{check, andThen, judgeOp, judgeOps, rooted, led, lowest, judge}
 use Rattle.model.specs.History.{unrooted}
+use Rattle.model.specs.Questions.{hasBit, addBit, collect}
 
 -- what a row reads off: numbers of the heap; or of an act its refusal's number and extra answer, or else the allowance, the count and the number of unmarked
--- objects, which a close frees
+-- objects, which a close frees; or of a local collection the number freed, the count of the object at place 6, and the objects left
 pub data Row : Type 0 where
   number : ℕ → Row
   refused : ℕ → ℕ → Row
   accepted : ℕ → ℕ → ℕ → Row
+  collected : ℕ → ℕ → ℕ → Row
 
 -- what is read off, and what it must be
 pub data Case : Type 0 where
@@ -68,5 +70,28 @@ pub shortcuts :
     -- the allowance is P plus the objects in use that no root names
     case (number (2 + unrooted 2 4 (after (blank 2 4) (commit three ∷ [])))) (number 4) ∷
     [])
-unfolding addr get put lengthOf blank placeOf partOf wordOf refer release each again tally every first follow pass spread mark markWord store born perform performAll unmarked notClean unclean markRoots allow openUp inside outside finish traceOne clear settle shut closeUp apply check andThen judgeOp judgeOps rooted led lowest judge unrooted
+unfolding addr get put lengthOf blank placeOf partOf wordOf abroad lose gain recount refer release each again tally every first follow pass spread mark markWord store born perform performAll unmarked notClean unclean markRoots allow openUp inside outside finish traceOne clear settle shut closeUp apply check andThen judgeOp judgeOps rooted led lowest judge unrooted
 shortcuts = (refl, (refl, (refl, (refl, (refl, (refl, (refl, tt)))))))
+
+-- local collections after the paper's transaction and one more
+abbrev frees : List Act → ℕ → Row
+frees acts p = let img = after (blank 2 4) acts in collected (localFreed 2 4 p img) (get img (inlist 6)) (unmarked 8 (localUp 2 4 p img))
+
+pub locals :
+    Agree
+    -- a cycle over two partitions stays, whichever is collected
+    (case (frees (commit three ∷ commit (new 0 2 1 ∷ new 1 2 2 ∷ set-to 0 2 0 1 2 ∷ set-to 1 2 0 0 2 ∷ []) ∷ []) 0) (collected 0 1 5) ∷
+    -- a cycle inside one goes
+    case (frees (commit three ∷ commit (new 0 2 1 ∷ new 0 3 2 ∷ set-to 0 2 0 0 3 ∷ set-to 0 3 0 0 2 ∷ []) ∷ []) 0) (collected 2 0 3) ∷
+    -- two fields count two, and when their object goes, what they named is counted 0 and goes next
+    case (frees (commit three ∷ commit (new 0 2 1 ∷ new 1 2 2 ∷ set-to 0 2 0 1 2 ∷ set-to 0 2 1 1 2 ∷ []) ∷ []) 0) (collected 1 2 4) ∷
+    case (frees (commit three ∷ commit (new 0 2 1 ∷ new 1 2 2 ∷ set-to 0 2 0 1 2 ∷ set-to 0 2 1 1 2 ∷ []) ∷ local 0 ∷ []) 1) (collected 1 0 3) ∷
+    -- no flag changes: what is not clean stays so, and what is clean too
+    case (says (commit three ∷ opening ∷ local 0 ∷ []) closing) (refused 14 0) ∷
+    case (says (traced-all ++ (local 0 ∷ [])) closing) (accepted 5 2 2) ∷
+    -- its refusals: 7 before 12
+    case (says [] (local 2)) (refused 7 0) ∷
+    case (says [] (local 0)) (refused 12 0) ∷
+    [])
+unfolding addr get put lengthOf blank placeOf partOf wordOf abroad lose gain recount refer release each again tally every first follow pass spread mark markWord store born perform performAll unmarked notClean unclean markRoots allow openUp inside outside finish traceOne clear settle shut closeUp localStart localBits freeBut localUp localFreed hasBit addBit collect apply check andThen judgeOp judgeOps rooted led lowest judge
+locals = (refl, (refl, (refl, (refl, (refl, (refl, (refl, (refl, tt))))))))

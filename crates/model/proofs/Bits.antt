@@ -96,6 +96,10 @@ module _ (n : ℕ) where
       unfolding Got
       got-step t c r l g = add-cases (Got t) c r (λ e. (bit-wide c (at r) (g .0), bit-stays c (at r) t (g .0) (inn r l e) (g .1))) (λ e. g)
 
+      pub collect-more : (b : Bits) (t : ℕ) → Wide b → hasBit b t ≡ true → hasBit (collect m test at b) t ≡ true
+      unfolding collect Got
+      collect-more b t w e = each-keeps (Got t) m _ (got-step t) b (w, e) .1
+
       pub collect-has : (b : Bits) (r : ℕ) → Wide b → r < m → test r ≡ true → hasBit (collect m test at b) (at r) ≡ true
       unfolding collect Got
       collect-has b r w l e =

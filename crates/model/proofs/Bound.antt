@@ -5,19 +5,25 @@ use mathlib.Core.Path.{_≡_, refl, ap, _∙_}
 use mathlib.Core.Bool.{false}
 use mathlib.Core.List.{List}
 use native.Mathlib.Omega.{arith}
+use borrow.Author.Tests.{ltb-true}
 use Rattle.loops.proofs.Tests.{clash}
 use Rattle.kinds.specs.declared.Operation.{Operation}
 use Rattle.model.specs.Image.{Image, Key, flag, state, count, allowance, get}
-use Rattle.model.specs.Acts.{Act, commit, opening, closing, trace, perform, inside, outside, finish, traceOne, apply}
+use Rattle.model.specs.Acts.{Act, commit, opening, closing, trace, local, localBits, localUp, perform, inside, outside, finish, traceOne, apply}
 use Rattle.model.specs.Judge.{judge}
 use Rattle.model.specs.History.{Run, still, acted, traces, Unclosed, unrooted}
-use Rattle.model.proofs.Keys.{Fits, same, get-put-apart, sized-put, get-put-same}
+use Rattle.model.proofs.Keys.{Fits, same, get-put-apart, sized-put, get-put-same, sized-length}
 use Rattle.model.proofs.Places.{Shape}
 use Rattle.model.proofs.Moves.{Linked, Phase, open-true}
 use Rattle.model.proofs.Tracing.{MoreMarks, more-inside, more-outside, phase-trace}
 use Rattle.model.proofs.Committing.{check-true, Good, commit-keeps, phase-perform, perform-head}
 use Rattle.model.proofs.Opening.{Shut, open-count, phase-open, open-allows}
 use Rattle.model.proofs.Reaching.{traced-is, opened-is}
+use Rattle.model.specs.Questions.{hasBit}
+use Rattle.model.specs.Sound.{SoundAt}
+use Rattle.model.proofs.Freeing.{free-phase}
+use Rattle.model.proofs.Collecting.{local-head}
+use Rattle.model.proofs.SoundnessActs.{run-kept, local-in, local-apart}
 
 module _ (P S : ℕ) (shape : Shape P S) where
   -- in a phase: the count, and the allowance that was set at its opening
@@ -62,22 +68,36 @@ module _ (P S : ℕ) (shape : Shape P S) where
         allowed = trace-other x p l (g .phase .linked) allowance (omega arith) (λ t. refl) (λ q. refl) refl ∙ g .allowed;
       }
 
-  -- whatever is committed meanwhile and in whatever order partitions are traced
-  pub counts : (x : Image) → Shut P S shape x → (acts : List Act) (y : Image) → Run P S (apply P S x opening) acts y → Unclosed acts → Counted (traces acts) (P + unrooted P S x) y
-  unfolding traces judge apply
-  counts x sh _ _ still u = record { phase = phase-open P S shape x (sh .linked); counted = open-count P S shape x (sh .linked); allowed = open-allows P S shape x sh }
-  counts x sh _ _ (acted {acts = acts} {y = y} (commit os) r j) u =
-      commit-keeps P S (Counted (traces acts) (P + unrooted P S x)) counted-perform y 1 os (check-true _ _ _ _ j .1) (counts x sh acts y r u)
-  counts x sh _ _ (acted {acts = acts} {y = y} opening r j) u =
-      absurd (clash (open-true P S shape y (counts x sh acts y r u .phase)) (opened-is P S shape y j))
-  counts x sh _ _ (acted {acts = acts} {y = y} (trace p) r j) u =
-      let t = traced-is P S shape y p j in
-      counted-trace y p _ _ (t .1) (t .2) (counts x sh acts y r u)
-  counts x sh _ _ (acted {acts = acts} {y = y} closing r j) u = absurd u
+  -- a local collection changes neither
+  counted-local : (x : Image) (p c al : ℕ) (l : p < P) (s : SoundAt P S x) → Counted c al x → Counted c al (localUp P S p x)
+  unfolding localUp
+  counted-local x p c al l s g =
+      let z = sized-length P S x (s .length-agrees) in
+      let a = local-apart P S x s p l in
+      record {
+        phase = free-phase P S shape S (λ i. p * S + i) (hasBit (localBits P S p x)) (local-in P S x s p l) x z a (g .phase);
+        counted = local-head P S p l x s 3 (omega arith) ∙ g .counted;
+        allowed = local-head P S p l x s 4 (omega arith) ∙ g .allowed;
+      }
 
-  pub at-most : (x : Image) → Shut P S shape x → (acts : List Act) (y : Image) → Run P S (apply P S x opening) acts y → Unclosed acts → traces acts ≤ P + unrooted P S x
-  at-most x sh acts y r u =
-      let g = counts x sh acts y r u in
+  -- whatever is committed meanwhile and in whatever order partitions are traced
+  pub counts : (x : Image) → Shut P S shape x → SoundAt P S (apply P S x opening) → (acts : List Act) (y : Image) → Run P S (apply P S x opening) acts y → Unclosed acts → Counted (traces acts) (P + unrooted P S x) y
+  unfolding traces judge apply
+  counts x sh so _ _ still u = record { phase = phase-open P S shape x (sh .linked); counted = open-count P S shape x (sh .linked); allowed = open-allows P S shape x sh }
+  counts x sh so _ _ (acted {acts = acts} {y = y} (commit os) r j) u =
+      commit-keeps P S (Counted (traces acts) (P + unrooted P S x)) counted-perform y 1 os (check-true _ _ _ _ j .1) (counts x sh so acts y r u)
+  counts x sh so _ _ (acted {acts = acts} {y = y} opening r j) u =
+      absurd (clash (open-true P S shape y (counts x sh so acts y r u .phase)) (opened-is P S shape y j))
+  counts x sh so _ _ (acted {acts = acts} {y = y} (trace p) r j) u =
+      let t = traced-is P S shape y p j in
+      counted-trace y p _ _ (t .1) (t .2) (counts x sh so acts y r u)
+  counts x sh so _ _ (acted {acts = acts} {y = y} closing r j) u = absurd u
+  counts x sh so _ _ (acted {acts = acts} {y = y} (local p) r j) u =
+      counted-local y p _ _ (ltb-true p P (check-true _ _ _ _ j .0)) (run-kept P S _ so r .sound) (counts x sh so acts y r u)
+
+  pub at-most : (x : Image) → Shut P S shape x → SoundAt P S (apply P S x opening) → (acts : List Act) (y : Image) → Run P S (apply P S x opening) acts y → Unclosed acts → traces acts ≤ P + unrooted P S x
+  at-most x sh so acts y r u =
+      let g = counts x sh so acts y r u in
       let b = g .phase .budget .within in
       let c = g .counted in
       let a = g .allowed in

@@ -2,12 +2,12 @@
 -- Assumes nothing.
 use Prim.Native.Nat.{ℕ, _+_, _*_, _<_}
 use mathlib.Core.Path.{_≡_, refl, sym, ap, _∙_, subst}
-use mathlib.Core.Bool.{true, false}
+use mathlib.Core.Bool.{Bool, true, false}
 use mathlib.Core.List.{List, [], _∷_}
 use mathlib.Core.Logic.{_≢_, _⊎_, inl, inr, ⊎-elim}
 use native.Mathlib.Omega.{arith}
 use native.Mathlib.Decide.{ℕ-discrete}
-use borrow.Author.Tests.{ne-eqb}
+use borrow.Author.Tests.{ne-eqb, ltb-true}
 use Rattle.loops.proofs.Tests.{clash}
 use Rattle.kinds.specs.Names.{wordOf}
 use Rattle.kinds.specs.declared.Name.{Name}
@@ -18,11 +18,11 @@ use Rattle.kinds.specs.declared.Operation.the-variants.{New, Set, Val, Root}
 use Rattle.kinds.specs.declared.Verdict.the-variants.{Accepted}
 use Rattle.model.specs.Image.{Image, Key, root, flag, state, payload, field, count, get, put, place, placeOf, refer, Holder, a-root, a-field}
 use Rattle.model.specs.Spread.{start, step}
-use Rattle.model.specs.Acts.{Act, commit, opening, closing, trace, mark, store, born, perform, performAll, openUp, target, inside, outside, finish, traceOne, apply}
+use Rattle.model.specs.Acts.{Act, commit, opening, closing, trace, local, localBits, localUp, mark, store, born, perform, performAll, openUp, target, inside, outside, finish, traceOne, apply}
 use Rattle.model.specs.Judge.{judgeOps, led, judge}
 use Rattle.model.specs.History.{Run, still, acted, Unclosed}
 use Rattle.model.specs.Chains.{Names, Leads, Stays, Step, op, traced, push, steps, birth, Above, bare, more, Since, last, before, Chain, from-root, created, stored-field, stored-root, along-held, toOpening, ChainTo}
-use Rattle.model.proofs.Keys.{Fits, same, get-put-apart}
+use Rattle.model.proofs.Keys.{Fits, Sized, same, get-put-apart, sized-length}
 use Rattle.model.proofs.Places.{Shape, slot-in, word-none, place-word}
 use Rattle.model.proofs.Moves.{Linked, Phase, open-true, phase-mark, phase-payload, phase-born, refer-state, refer-read}
 use Rattle.model.proofs.Tracing.{mark-read, mark-linked, trace-marks, phase-trace}
@@ -30,6 +30,10 @@ use Rattle.model.proofs.Committing.{check-true, then-true, May, none, s
 use Rattle.model.proofs.Opening.{Shut, phase-open, open-marks, open-field}
 use Rattle.model.proofs.Closing.{the-payload, the-field, led-leads, close-state, close-kept}
 use Rattle.model.proofs.Reaching.{traced-is, closed-is, opened-is}
+use Rattle.model.specs.Questions.{hasBit}
+use Rattle.model.specs.Sound.{SoundAt}
+use Rattle.model.proofs.Freeing.{of-state, Apart, free-same, free-phase, stayed, kept-ref}
+use Rattle.model.proofs.SoundnessActs.{run-kept, local-in, local-apart}
 
 renamed : {S : ℕ} {x y : Image} {κ : Key} {t : ℕ} → get y κ ≡ get x κ → Names S y κ t → Names S x κ t
 renamed e n = record { some = λ q. n .some (e ∙ q); target = rw (← e) (n .target) }
@@ -198,6 +202,31 @@ module _ (P S : ℕ) (shape : Shape P S) where
         chained-births h (op (Root r t) ∷ h) _ (λ i. refl)
         (chained-store h y (root r) _ (a-root lr) (no-field (λ j. get y (state j) ≢ 0)) m (stored-word h y t m (λ q e. stored-root (rw e at tk))) c)
 
+    -- a local collection: no birth changes
+    chained-local : (h : List Step) (y : Image) (p : ℕ) (l : p < P) (s : SoundAt P S y) → Chained h y → Chained h (localUp P S p y)
+    unfolding localUp
+    chained-local h y p l s c =
+        record {
+          phase = free-phase P S shape S at stay inn y z a (c .phase);
+          marks = λ i li e. c .marks i li (sym (free-same P S shape S at stay inn y z a i (state i) of-state (stayed P S shape S at stay inn y z a i (λ q. omega arith))) ∙ e);
+          refs = λ i k t li m n. c .refs i k t li m (renamed (kept-ref P S shape S at stay inn y z a (field i k) (a-field li m) (n .some) .0) n);
+        }
+      where
+        at : ℕ → ℕ
+        at i = p * S + i
+
+        stay : ℕ → Bool
+        stay = hasBit (localBits P S p y)
+
+        inn : (j : ℕ) → j < S → at j < P * S
+        inn = local-in P S y s p l
+
+        z : Sized (P * S) y
+        z = sized-length P S y (s .length-agrees)
+
+        a : Apart P S S at stay y
+        a = local-apart P S y s p l
+
     -- what was taken since is taken since in a longer history
     since-push : (os : List Operation) (h : List Step) (s : Step) (e : List Step) → Since base h s e → Since base (push os h) s e
     unfolding push
@@ -216,6 +245,7 @@ module _ (P S : ℕ) (shape : Shape P S) where
     above-steps (opening ∷ acts) = more (above-steps acts)
     above-steps (trace p ∷ acts) = more (above-steps acts)
     above-steps (closing ∷ acts) = more (above-steps acts)
+    above-steps (local p ∷ acts) = more (above-steps acts)
 
     chained-commit : (h : List Step) (y : Image) (e : ℕ) (os : List Operation) → judgeOps P S y e os ≡ Accepted → ((s : Step) (f : List Step) → Since base (push os h) s f → Taken s f) → Above base h
         → Chained h y → Chained (push os h) (performAll S y os)
@@ -234,25 +264,28 @@ module _ (P S : ℕ) (shape : Shape P S) where
           refs = λ i k t l m n. inr (renamed (open-field P S shape x (sh .linked) i k l m) n, refl, refl);
         }
 
-    chained : Shut P S shape x → (acts : List Act) (y : Image) → Run P S (apply P S x opening) acts y → Unclosed acts
+    chained : Shut P S shape x → SoundAt P S (apply P S x opening) → (acts : List Act) (y : Image) → Run P S (apply P S x opening) acts y → Unclosed acts
         → ((s : Step) (e : List Step) → Since base (steps acts base) s e → Taken s e) → Chained (steps acts base) y
-    unfolding steps judge apply
-    chained sh _ _ still u sub = chained-open sh
-    chained sh _ _ (acted {acts = acts} {y = y} (commit os) r j) u sub =
-        chained-commit (steps acts base) y 1 os (check-true _ _ _ _ j .1) sub (above-steps acts) (chained sh acts y r u (λ s e q. sub s e (since-push os _ s e q)))
-    chained sh _ _ (acted {acts = acts} {y = y} opening r j) u sub =
-        absurd (clash (open-true P S shape y (chained sh acts y r u (λ s e q. sub s e (before q)) .phase)) (opened-is P S shape y j))
-    chained sh _ _ (acted {acts = acts} {y = y} (trace p) r j) u sub =
+    unfolding steps judge apply birth
+    chained sh so _ _ still u sub = chained-open sh
+    chained sh so _ _ (acted {acts = acts} {y = y} (commit os) r j) u sub =
+        chained-commit (steps acts base) y 1 os (check-true _ _ _ _ j .1) sub (above-steps acts) (chained sh so acts y r u (λ s e q. sub s e (since-push os _ s e q)))
+    chained sh so _ _ (acted {acts = acts} {y = y} opening r j) u sub =
+        absurd (clash (open-true P S shape y (chained sh so acts y r u (λ s e q. sub s e (before q)) .phase)) (opened-is P S shape y j))
+    chained sh so _ _ (acted {acts = acts} {y = y} (trace p) r j) u sub =
         let t = traced-is P S shape y p j in
-        chained-trace _ y (chained sh acts y r u (λ s e q. sub s e (before q))) p (t .1) (t .2)
-    chained sh _ _ (acted {acts = acts} {y = y} closing r j) u sub = absurd u
+        chained-trace _ y (chained sh so acts y r u (λ s e q. sub s e (before q))) p (t .1) (t .2)
+    chained sh so _ _ (acted {acts = acts} {y = y} closing r j) u sub = absurd u
+    chained sh so _ _ (acted {acts = acts} {y = y} (local p) r j) u sub =
+        chained-births (steps acts base) _ _ (λ i. refl)
+        (chained-local (steps acts base) y p (ltb-true p P (check-true _ _ _ _ j .0)) (run-kept P S _ so r .sound) (chained sh so acts y r u (λ s e q. sub s e (before q))))
 
   -- close frees every object that no chain leads to
-  pub close-frees : (earlier : List Act) (x : Image) → Shut P S shape x → (acts : List Act) (y : Image) → Run P S (apply P S x opening) acts y → Unclosed acts
+  pub close-frees : (earlier : List Act) (x : Image) → Shut P S shape x → SoundAt P S (apply P S x opening) → (acts : List Act) (y : Image) → Run P S (apply P S x opening) acts y → Unclosed acts
       → (i : ℕ) → i < P * S → (ChainTo S earlier x acts i → ⊥) → get (apply P S y closing) (state i) ≡ 0
   unfolding apply
-  close-frees earlier x sh acts y s u i l unchained =
-      let c = chained x (toOpening earlier) _ sh acts y s u (λ s e q. q) in
+  close-frees earlier x sh so acts y s u i l unchained =
+      let c = chained x (toOpening earlier) _ sh so acts y s u (λ s e q. q) in
       let two : get y (state i) ≢ 2 = λ q. unchained (c .marks i l q) in
       let b = c .phase .linked .states i l in
       let e = close-state P S shape y (c .phase .linked) i l in

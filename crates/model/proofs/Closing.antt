@@ -57,17 +57,17 @@ settle-cases S Q x i one two else = go (eqb (get x (state i)) 1) refl (eqb (get 
     go false e false f = else (eqb-false _ _ e) (eqb-false _ _ f)
 
 module _ (n S : ℕ) where
-  clear-size : (x : Image) (i : ℕ) → Sized n x → Sized n (clear S x i)
+  pub clear-size : (x : Image) (i : ℕ) → Sized n x → Sized n (clear S x i)
   unfolding clear
   clear-size x i z = each-keeps (Sized n) 4 _ (λ y k l w. sized-release _ _ _ _ w) _ (sized-put _ _ _ _ (sized-put _ _ _ _ z))
 
-  clear-state : (x : Image) (i : ℕ) → i < n → Sized n x → get (clear S x i) (state i) ≡ 0
+  pub clear-state : (x : Image) (i : ℕ) → i < n → Sized n x → get (clear S x i) (state i) ≡ 0
   unfolding clear
   clear-state x i l z =
       each-keeps (λ y. get y (state i) ≡ 0) 4 _ (λ y k m e. release-apart S y (field i k) (state i) m tt refl ∙ e) _
       (get-put-apart (put x (state i) 0) (payload i) 0 (state i) tt tt refl ∙ get-put-same n x (state i) 0 z l)
 
-  clear-content : (x : Image) {i : ℕ} {μ : Key} → Content i μ → i < n → Sized n x → get (clear S x i) μ ≡ 0
+  pub clear-content : (x : Image) {i : ℕ} {μ : Key} → Content i μ → i < n → Sized n x → get (clear S x i) μ ≡ 0
   unfolding clear
   clear-content x {i} the-payload l z =
       each-keeps (λ y. get y (payload i) ≡ 0) 4 _ (λ y k m e. release-apart S y (field i k) (payload i) m tt refl ∙ e) _

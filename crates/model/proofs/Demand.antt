@@ -1,11 +1,12 @@
--- Demand 3, whole, over histories from a formatting: however commits and traces are mixed, a phase ends within P + W traces, and its close keeps every object
+-- Demand 3, whole, over histories from a formatting: however commits, traces and local collections are mixed, a phase ends within P + W traces, and its close keeps every object
 -- that a root leads to and frees every object that no chain leads to.
 -- Assumes nothing.
 use Prim.Native.Nat.{ℕ, _+_, _*_, _≤_, _<_}
 use mathlib.Core.Path.{_≡_}
 use mathlib.Core.Bool.{true}
 use mathlib.Core.List.{List, _++_}
-use mathlib.Core.Logic.{_≢_}
+use mathlib.Core.Logic.{_≢_, _⊎_, inl, inr, ⊎-elim}
+use Rattle.loops.proofs.Tests.{eq-or-ne}
 use Rattle.kinds.specs.Answers.{refuse}
 use Rattle.kinds.specs.declared.Verdict.the-variants.{Accepted}
 use Rattle.model.specs.Image.{Image, flag, state, count, get}
@@ -13,9 +14,9 @@ use Rattle.model.specs.Acts.{Act, opening, closing, trace, notClean, app
 use Rattle.model.specs.Judge.{inLimits, rooted, judge}
 use Rattle.model.specs.Sound.{isSound}
 use Rattle.model.specs.History.{Run, still, acted, traces, unrooted}
-use Rattle.model.specs.Chains.{Leads, Stays, ChainTo}
+use Rattle.model.specs.Chains.{Leads, Stays, ChainToBorn, ChainTo, birthNow}
 use Rattle.model.proofs.Soundness.{limits-true}
-use Rattle.model.proofs.SoundnessActs.{reached-passes}
+use Rattle.model.proofs.SoundnessActs.{act-sound, reached-passes}
 use Rattle.model.proofs.Reaching.{is-shut, opened-is, reached}
 use Rattle.model.proofs.Refusing.{can-trace, can-close, never-15-16}
 use Rattle.model.proofs.Bound.{counts, at-most}
@@ -36,6 +37,9 @@ pub record Demand-3 (P S : ℕ) (earlier : List Act) (x : Image) (acts : List Ac
   -- what the close leaves
   pub keeps : judge P S y closing ≡ Accepted → (j : ℕ) → Leads S y j → Stays y (apply P S y closing) j
   pub frees : judge P S y closing ≡ Accepted → (j : ℕ) → j < P * S → (ChainTo S earlier x acts j → ⊥) → get (apply P S y closing) (state j) ≡ 0
+  -- over objects, by place and birth: one that no chain leads to is gone after the close, whether the close or a local collection freed it
+  pub gone : judge P S y closing ≡ Accepted → (j b : ℕ) → j < P * S → (ChainToBorn S earlier x acts j b → ⊥)
+      → (get (apply P S y closing) (state j) ≡ 0) ⊎ (birthNow S earlier acts j ≢ b)
   pub sound-after : judge P S y closing ≡ Accepted → isSound (apply P S y closing) ≡ true
   -- tracing the lowest partition that is not clean, again and again, ends within the bound, and then the phase can close if a root is in use
   pub progress : Ends P S (P + unrooted P S x) y
@@ -48,18 +52,21 @@ pub demand-3 : (P S : ℕ) → inLimits P S ≡ true → {history : List Act} {y
 demand-3 P S limits {y = y} o =
     let shape = limits-true P S limits in
     let sh = is-shut P S shape (o .x) (reached P S shape (o .earlier) (o .x) (o .before) .sound) (opened-is P S shape (o .x) (o .opens)) in
+    let so = act-sound P S (o .x) opening (reached P S shape (o .earlier) (o .x) (o .before) .sound) (o .opens) in
     let whole = run-append (o .since) (acted opening (o .before) (o .opens)) (o .run) in
-    let c = counts P S shape (o .x) sh (o .since) y (o .run) (o .unclosed) in
+    let c = counts P S shape (o .x) sh so (o .since) y (o .run) (o .unclosed) in
     let w = c .phase .linked in
     record {
-      bound = at-most P S shape (o .x) sh (o .since) y (o .run) (o .unclosed);
+      bound = at-most P S shape (o .x) sh so (o .since) y (o .run) (o .unclosed);
       counted = c .counted;
       sound = reached-passes P S limits whole;
       traceable = λ p l f. can-trace P S shape y p (c .phase) l f;
       closable = λ e q. can-close P S shape y (c .phase) e q;
       never = λ a e. never-15-16 P S shape y (reached P S shape _ y whole .heap) a e;
       keeps = λ k i l. close-keeps P S shape y w k i l;
-      frees = λ k i l n. close-frees P S shape (o .earlier) (o .x) sh (o .since) y (o .run) (o .unclosed) i l n;
+      frees = λ k i l n. close-frees P S shape (o .earlier) (o .x) sh so (o .since) y (o .run) (o .unclosed) i l n;
+      gone = λ k i b l n.
+          ⊎-elim (λ e. inl (close-frees P S shape (o .earlier) (o .x) sh so (o .since) y (o .run) (o .unclosed) i l (rw e n))) (λ e. inr e) (eq-or-ne (birthNow S (o .earlier) (o .since) i) b);
       sound-after = λ k. reached-passes P S limits (acted closing whole k);
       progress = progress P S shape y c;
     }

@@ -1,5 +1,5 @@
 -- What each accepted act makes of every word of the image (specs/Effects.antt), on any sound image, and that no second image is so: what an act writes is
--- there, and every word is written or as it was.
+-- there, and every word is written or as it was, but the counts, which are right.
 -- Assumes nothing.
 use Prim.Native.Nat.{ℕ, zero, suc, _+_, _*_, _-_, _≤_, _<_}
 use mathlib.Core.Path.{_≡_, refl, sym, ap, _∙_, subst}
@@ -9,9 +9,9 @@ use mathlib.Core.Logic.{_≢_, _⊎_, inl, inr, ⊎-elim}
 use native.Mathlib.Omega.{arith}
 use native.Mathlib.Decide.{ℕ-discrete}
 use lib.Dec.{eqb}
-use borrow.Author.Tests.{eqb-true, eqb-false, eq-eqb, ne-eqb, not-true}
+use borrow.Author.Tests.{eqb-true, eqb-false, eq-eqb, ne-eqb, ltb-true, not-true}
 use Rattle.loops.specs.Loop.{both}
-use Rattle.loops.proofs.Tests.{eq-or-ne}
+use Rattle.loops.proofs.Tests.{clash, eq-or-ne}
 use Rattle.loops.proofs.Loops.{tally-same}
 use Rattle.kinds.specs.Names.{mostPartitions, wordOf}
 use Rattle.kinds.specs.declared.Name.{Name}
@@ -20,14 +20,14 @@ use Rattle.kinds.specs.declared.Target.the-variants.{Object}
 use Rattle.kinds.specs.declared.Operation.{Operation}
 use Rattle.kinds.specs.declared.Operation.the-variants.{New, Set, Val, Root}
 use Rattle.kinds.specs.declared.Verdict.the-variants.{Accepted}
-use Rattle.model.specs.Image.{Image, Key, head, root, flag, state, payload, field, phase, count, allowance, get, put, lengthOf, size, place, placeOf, partOf, Holder, a-root, a-field}
+use Rattle.model.specs.Image.{Image, Key, head, root, flag, state, payload, inlist, field, isCount, phase, count, allowance, get, put, lengthOf, size, place, placeOf, partOf, Holder, a-root, a-field}
 use Rattle.model.specs.Spread.{Reach, start, step}
-use Rattle.model.specs.Acts.{Act, commit, opening, closing, trace, marked, isOpen, mark, markWord, store, born, perform, performAll, unmarked, markRoots, openUp, inside, outside, finish, traceOne, closeUp, apply, own, foreign, target}
+use Rattle.model.specs.Acts.{Act, commit, opening, closing, trace, local, marked, isOpen, mark, markWord, store, born, perform, performAll, unmarked, markRoots, openUp, inside, outside, finish, traceOne, closeUp, apply, own, foreign, target}
 use Rattle.model.specs.Judge.{judgeOps, judge}
 use Rattle.model.specs.Chains.{Names}
 use Rattle.model.specs.Sound.{SoundAt}
 use Rattle.model.specs.Effects.{In, Leaves, Stores, StoresUnmarked, Performs, new-state, new-payload, new-field, val, set, root-to, marks-stored, uncleans-stored, Performed, Committed, nothing-more, and-then, Opens, marks-rooted, uncleans-all, opens, restarts, allows, Opened, Within, Beyond, Traces, marks-within, marks-beyond, uncleans-beyond, cleans, counts, Closes, frees, frees-payload, frees-field, unmarks, shuts, flags-down, freed, Effect}
-use Rattle.model.proofs.Keys.{Fits, same, in-fits, get-put-apart, sized-put, words-same, sized-length}
+use Rattle.model.proofs.Keys.{Fits, NoCount, same, in-fits, get-put-apart, sized-put, words-same, sized-length}
 use Rattle.model.proofs.Places.{Shape, parts, part-of, slot-in, slot-of, word-none, place-word}
 use Rattle.model.proofs.Moves.{Linked, holder-in, newMark-state, newMark-flag, mark-keeps, unclean-other, unclean-flag, holder-state, holder-flag}
 use Rattle.model.proofs.Tracing.{mark-read, mark-linked, mark-marks, mark-flag, MoreMarks, more-none, more-mark, more-field, pass-marks, spread-marks, more-inside, more-outside, Own, inside-all, outside-all}
@@ -37,6 +37,8 @@ use Rattle.model.proofs.Closing.{Content, the-payload, the-field, close
 use Rattle.model.proofs.Soundness.{sound-limits}
 use Rattle.model.proofs.SoundnessMoves.{Written, put-written, refer-written, written-read, sound-linked}
 use Rattle.model.proofs.SoundnessActs.{act-sound, act-partitions, act-slots, holds-perform}
+use Rattle.model.proofs.Counting.{count-reads}
+use Rattle.model.proofs.Collecting.{localized}
 use Rattle.model.proofs.Reaching.{traced-is}
 
 -- something is written at κ
@@ -46,13 +48,13 @@ Some W κ = (v : ℕ) × W κ v
 module _ (W : Key → ℕ → Type 0) (x : Image) where
   -- every word of y is written, or as in x
   abbrev Others : Image → Type 0
-  Others y = (μ : Key) → Fits μ → Some W μ ⊎ (get y μ ≡ get x μ)
+  Others y = (μ : Key) → Fits μ → NoCount μ → Some W μ ⊎ (get y μ ≡ get x μ)
 
   others-none : Others x
-  others-none μ f = inr refl
+  others-none μ f c = inr refl
 
   others-put : {n : ℕ} {y z : Image} {κ : Key} {v : ℕ} → Some W κ → Written n y κ v z → Others y → Others z
-  others-put e w o μ f = ⊎-elim (λ q. inl (subst (Some W) (q .0) e)) (λ q. ⊎-elim (λ r. inl r) (λ r. inr (q ∙ r)) (o μ f)) (written-read w μ f)
+  others-put e w o μ f c = ⊎-elim (λ q. inl (subst (Some W) (q .0) e)) (λ q. ⊎-elim (λ r. inl r) (λ r. inr (q ∙ r)) (o μ f c)) (written-read w μ f c)
 
   -- x with more marks: a state that changed is a mark, and its partition is not clean
   module _ (P S : ℕ) (shape : Shape P S) where
@@ -262,7 +264,8 @@ module _ (P S : ℕ) (x : Image) (s : SoundAt P S x) where
   performed : (o : Operation) → Good P S x o → Performed P S x o (perform S x o)
   performed o g =
       let w = words o g in
-      record { written = w .written; others = λ κ i. w .others κ (in-fits (P * S) κ i); length = holds-perform P S x o g s .sound .length-agrees ∙ sym (s .length-agrees) }
+      let y = holds-perform P S x o g s .sound in
+      record { written = w .written; others = λ κ i c. w .others κ (in-fits (P * S) κ i) c; right = y .right; length = y .length-agrees ∙ sym (s .length-agrees) }
 
   -- OPEN
   open-flag : (p : ℕ) → p < mostPartitions → get (openUp P S x) (flag p) ≡ 0
@@ -288,18 +291,19 @@ module _ (P S : ℕ) (x : Image) (s : SoundAt P S x) where
       open-allowance P S shape x linked ∙
       ap (λ (n : ℕ). P + n) (tally-same (P * S) _ _ (λ j l. ap (λ (v : ℕ). eqb v 1) (sym (open-other P S shape x (state j) tt refl refl))))
 
-  open-others : (κ : Key) → In (P * S) κ → Some (Opens P S x (openUp P S x)) κ ⊎ (get (openUp P S x) κ ≡ get x κ)
-  open-others (head h) i =
+  open-others : (κ : Key) → In (P * S) κ → NoCount κ → Some (Opens P S x (openUp P S x)) κ ⊎ (get (openUp P S x) κ ≡ get x κ)
+  open-others (head h) i c =
       head-cases (λ h. Some (Opens P S x (openUp P S x)) (head h) ⊎ (get (openUp P S x) (head h) ≡ get x (head h)))
       (inr (open-kept (head 0) (omega arith) (λ j. refl) (λ p. refl) (λ h l. ne-eqb h 0 (λ e. omega arith))))
       (inr (open-kept (head 1) (omega arith) (λ j. refl) (λ p. refl) (λ h l. ne-eqb h 1 (λ e. omega arith)))) (inl (1, opens)) (inl (0, restarts)) (inl (_, allows)) h i
-  open-others (root r) i = inr (open-kept (root r) i (λ j. refl) (λ p. refl) (λ h l. refl))
-  open-others (flag p) i = inl (0, uncleans-all)
-  open-others (state j) i =
+  open-others (root r) i c = inr (open-kept (root r) i (λ j. refl) (λ p. refl) (λ h l. refl))
+  open-others (flag p) i c = inl (0, uncleans-all)
+  open-others (state j) i c =
       let e = open-other P S shape x (state j) tt refl refl in
       ⊎-elim (λ q. inr (e ∙ q)) (λ q. inl (2, marks-rooted (q .1 .1) (q .1 .2))) (ready-roots P S shape x linked .states j)
-  open-others (payload j) i = inr (open-kept (payload j) tt (λ j. refl) (λ p. refl) (λ h l. refl))
-  open-others (field j k) i = inr (open-kept (field j k) (i .1) (λ j. refl) (λ p. refl) (λ h l. refl))
+  open-others (payload j) i c = inr (open-kept (payload j) tt (λ j. refl) (λ p. refl) (λ h l. refl))
+  open-others (field j k) i c = inr (open-kept (field j k) (i .1) (λ j. refl) (λ p. refl) (λ h l. refl))
+  open-others (inlist j) i c = absurd (clash refl c)
 
   -- TRACE
   module _ (p : ℕ) (inp : p < P) where
@@ -410,19 +414,20 @@ module _ (P S : ℕ) (x : Image) (s : SoundAt P S x) where
   close-content : {j : ℕ} {μ : Key} → Content j μ → j < P * S → (get x (state j) ≡ 1 → Closes x μ 0) → Some (Closes x) μ ⊎ (get (closeUp P S x) μ ≡ get x μ)
   close-content {j} c l h = ⊎-elim (λ e. inl (0, h e)) (λ e. inr (close-kept P S shape x linked c l e)) (eq-or-ne (get x (state j)) 1)
 
-  close-others : judge P S x closing ≡ Accepted → (κ : Key) → In (P * S) κ → Some (Closes x) κ ⊎ (get (closeUp P S x) κ ≡ get x κ)
+  close-others : judge P S x closing ≡ Accepted → (κ : Key) → In (P * S) κ → NoCount κ → Some (Closes x) κ ⊎ (get (closeUp P S x) κ ≡ get x κ)
   unfolding apply
-  close-others a (head h) i =
+  close-others a (head h) i c =
       head-cases (λ h. Some (Closes x) (head h) ⊎ (get (closeUp P S x) (head h) ≡ get x (head h))) (inr (act-partitions P S x closing s a)) (inr (act-slots P S x closing s a))
       (inl (0, shuts (omega arith))) (inl (0, shuts (omega arith))) (inl (0, shuts (omega arith))) h i
-  close-others a (root r) i = inr (close-root P S shape x linked r i)
-  close-others a (flag p) i = inl (0, flags-down)
-  close-others a (state j) i =
+  close-others a (root r) i c = inr (close-root P S shape x linked r i)
+  close-others a (flag p) i c = inl (0, flags-down)
+  close-others a (state j) i c =
       let c = close-state P S shape x linked j i in
       let b = linked .states j i in
       ⊎-elim (λ e. inl (0, frees e)) (λ e. ⊎-elim (λ d. inl (1, unmarks d)) (λ d. inr (omega arith)) (eq-or-ne (get x (state j)) 2)) (eq-or-ne (get x (state j)) 1)
-  close-others a (payload j) i = close-content the-payload i frees-payload
-  close-others a (field j k) i = close-content (the-field (i .1)) (i .0) frees-field
+  close-others a (payload j) i c = close-content the-payload i frees-payload
+  close-others a (field j k) i c = close-content (the-field (i .1)) (i .0) frees-field
+  close-others a (inlist j) i c = absurd (clash refl c)
 
   close-number : unmarked (P * S) x ≡ freed (P * S) x (closeUp P S x)
   unfolding unmarked freed
@@ -449,28 +454,49 @@ act-length P S x a s j = act-sound P S x a s j .length-agrees ∙ sym (s .length
 pub effect : (P S : ℕ) (x : Image) (a : Act) → SoundAt P S x → judge P S x a ≡ Accepted → Effect P S a x (apply P S x a)
 unfolding judge apply
 effect P S x (commit os) s j = committed P S x 1 os s (check-true _ _ _ _ j .1)
-effect P S x opening s j = record { written = open-written P S x s; others = open-others P S x s; length = act-length P S x opening s j }
+effect P S x opening s j =
+    record { written = open-written P S x s; others = open-others P S x s; right = act-sound P S x opening s j .right; length = act-length P S x opening s j }
 effect P S x (trace p) s j =
     let l = traced-is P S (shape P S x s) x p j .1 in
-    record { written = trace-written P S x s p l; others = λ κ i. trace-others P S x s p l κ (in-fits (P * S) κ i); length = act-length P S x (trace p) s j }
+    record {
+      written = trace-written P S x s p l;
+      others = λ κ i c. trace-others P S x s p l κ (in-fits (P * S) κ i) c;
+      right = act-sound P S x (trace p) s j .right;
+      length = act-length P S x (trace p) s j;
+    }
 effect P S x closing s j =
     record {
-      words = record { written = close-written P S x s; others = close-others P S x s j; length = act-length P S x closing s j };
+      words = record { written = close-written P S x s; others = close-others P S x s j; right = act-sound P S x closing s j .right; length = act-length P S x closing s j };
       number = close-number P S x s;
     }
+effect P S x (local p) s j = localized P S p (ltb-true p P (check-true _ _ _ _ j .0)) x s
 
 -- NO SECOND IMAGE: x alone says every word of y
-leaves-agree : (n : ℕ) (x : Image) (W U : Key → ℕ → Type 0) (y z : Image) → Leaves n x W y → Leaves n x U z
-    → (κ : Key) → In n κ → ((v : ℕ) → W κ v → U κ v) → ((v : ℕ) → U κ v → W κ v) → get y κ ≡ get z κ
-leaves-agree n x W U y z g h κ i to fro =
+leaves-agree : (n S : ℕ) (x : Image) (W U : Key → ℕ → Type 0) (y z : Image) → Leaves n S x W y → Leaves n S x U z
+    → (κ : Key) → In n κ → NoCount κ → ((v : ℕ) → W κ v → U κ v) → ((v : ℕ) → U κ v → W κ v) → get y κ ≡ get z κ
+leaves-agree n S x W U y z g h κ i c to fro =
     ⊎-elim (λ w. g .written κ (w .0) i (w .1) ∙ sym (h .written κ (w .0) i (to (w .0) (w .1))))
-    (λ a. ⊎-elim (λ w. g .written κ (w .0) i (fro (w .0) (w .1)) ∙ sym (h .written κ (w .0) i (w .1))) (λ b. a ∙ sym b) (h .others κ i)) (g .others κ i)
+    (λ a. ⊎-elim (λ w. g .written κ (w .0) i (fro (w .0) (w .1)) ∙ sym (h .written κ (w .0) i (w .1))) (λ b. a ∙ sym b) (h .others κ i c)) (g .others κ i c)
 
 module _ (P S : ℕ) where
   leaves-once : (x : Image) (W U : Key → ℕ → Type 0) (y z : Image) → lengthOf x ≡ size P S → ((κ : Key) (v : ℕ) → W κ v → U κ v) → ((κ : Key) (v : ℕ) → U κ v → W κ v)
-      → Leaves (P * S) x W y → Leaves (P * S) x U z → y ≡ z
-  leaves-once x W U y z e to fro g h =
-      words-same (P * S) y z (sized-length P S y (g .length ∙ e)) (sized-length P S z (h .length ∙ e)) (λ κ i. leaves-agree (P * S) x W U y z g h κ i (to κ) (fro κ))
+      → Leaves (P * S) S x W y → Leaves (P * S) S x U z → y ≡ z
+  leaves-once x W U y z e to fro g h = words-same (P * S) y z (sized-length P S y (g .length ∙ e)) (sized-length P S z (h .length ∙ e)) (λ κ i. go κ i (isCount κ) refl)
+    where
+      agree : (κ : Key) → In (P * S) κ → NoCount κ → get y κ ≡ get z κ
+      agree κ i c = leaves-agree (P * S) S x W U y z g h κ i c (to κ) (fro κ)
+
+      -- counts are read off the fields
+      go : (κ : Key) → In (P * S) κ → (b : Bool) → isCount κ ≡ b → get y κ ≡ get z κ
+      go κ i false c = agree κ i c
+      go (inlist j) i true c =
+          g .right .counts j i ∙ count-reads (P * S) S y z (λ i k li m. agree (field i k) (li, m) refl) j ∙ sym (h .right .counts j i)
+      go (head h) i true c = absurd (clash c refl)
+      go (root r) i true c = absurd (clash c refl)
+      go (flag p) i true c = absurd (clash c refl)
+      go (state j) i true c = absurd (clash c refl)
+      go (payload j) i true c = absurd (clash c refl)
+      go (field j k) i true c = absurd (clash c refl)
 
   committed-once : {x y z : Image} {os : List Operation} → lengthOf x ≡ size P S → Committed P S x os y → Committed P S x os z → y ≡ z
   committed-once e nothing-more nothing-more = refl
@@ -492,7 +518,7 @@ module _ (P S : ℕ) where
   unfolding unmarked
   opened-once x y z e g h =
       let u : unmarked (P * S) y ≡ unmarked (P * S) z =
-      tally-same (P * S) _ _ (λ j l. ap (λ (n : ℕ). eqb n 1) (leaves-agree (P * S) x _ _ y z g h (state j) l (opens-state j) (opens-state j))) in
+      tally-same (P * S) _ _ (λ j l. ap (λ (n : ℕ). eqb n 1) (leaves-agree (P * S) S x _ _ y z g h (state j) l refl (opens-state j) (opens-state j))) in
       leaves-once x _ _ y z e (opens-same u) (opens-same (sym u)) g h
 
   pub effect-once : (x y z : Image) (a : Act) → lengthOf x ≡ size P S → Effect P S a x y → Effect P S a x z → y ≡ z
@@ -500,3 +526,4 @@ module _ (P S : ℕ) where
   effect-once x y z opening e g h = opened-once x y z e g h
   effect-once x y z (trace p) e g h = leaves-once x _ _ y z e (λ κ v w. w) (λ κ v w. w) g h
   effect-once x y z closing e g h = leaves-once x _ _ y z e (λ κ v w. w) (λ κ v w. w) (g .words) (h .words)
+  effect-once x y z (local p) e g h = leaves-once x _ _ y z e (λ κ v w. w) (λ κ v w. w) (g .words) (h .words)

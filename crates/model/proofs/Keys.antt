@@ -1,8 +1,9 @@
--- Keys and their words: which keys are in an image, when two differ, and the laws of get, put, refer and release. Nothing above opens any of these four.
+-- Keys and their words: which keys are in an image, when two differ, and the laws of get, put, refer and release. Above, only Counting
+-- opens `refer` and `release`, and SoundnessActs and Answers `get`.
 -- Assumes nothing.
 use Prim.Native.Nat.{ℕ, zero, suc, _+_, _*_, _-_, _/_, _%_, _≤_, _<_}
 use mathlib.Core.Path.{_≡_, refl, sym, ap, _∙_}
-use mathlib.Core.Bool.{Bool, true, false}
+use mathlib.Core.Bool.{Bool, true, false, cond}
 use mathlib.Core.List.{_∷_}
 use mathlib.Core.Logic.{_≢_, ⊎-elim}
 use native.Mathlib.Omega.{arith}
@@ -13,7 +14,7 @@ use borrow.Author.Tests.{eqb-false, eq-eqb}
 use Rattle.loops.specs.Loop.{both, tally, bit}
 use Rattle.loops.proofs.Tests.{clash, lt-or-ge}
 use Rattle.loops.proofs.Loops.{tally-same, tally-move}
-use Rattle.model.specs.Image.{Image, Key, head, root, flag, state, payload, field, anchors, front, stride, addr, get, put, lengthOf, size, blank, refer, release}
+use Rattle.model.specs.Image.{Image, Key, head, root, flag, state, payload, inlist, field, isCount, oneLess, oneMore, abroad, lose, gain, recount, placeOf, anchors, front, stride, addr, get, put, lengthOf, size, blank, refer, release}
 pub use Rattle.model.specs.Effects.{In}
 
 -- a key whose address is no other key's
@@ -23,6 +24,7 @@ Fits (root r) = r < anchors
 Fits (flag p) = p < 16
 Fits (state j) = Unit {0}
 Fits (payload j) = Unit {0}
+Fits (inlist j) = Unit {0}
 Fits (field j k) = k < 4
 
 -- an image of n places
@@ -37,6 +39,7 @@ kind (flag p) = 2
 kind (state j) = 3
 kind (payload j) = 4
 kind (field j k) = 5
+kind (inlist j) = 6
 
 abbrev pub major : Key → ℕ
 major (head h) = h
@@ -44,6 +47,7 @@ major (root r) = r
 major (flag p) = p
 major (state j) = j
 major (payload j) = j
+major (inlist j) = j
 major (field j k) = j
 
 abbrev pub minor : Key → ℕ
@@ -52,14 +56,20 @@ minor (root r) = 0
 minor (flag p) = 0
 minor (state j) = 0
 minor (payload j) = 0
+minor (inlist j) = 0
 minor (field j k) = k
 
 abbrev pub same : Key → Key → Bool
 same κ μ = both (eqb (kind κ) (kind μ)) (both (eqb (minor κ) (minor μ)) (eqb (major κ) (major μ)))
 
--- a change of the reference at κ may change the word at μ
+-- one of two tests passes; by the second first, so that it computes where that is known
+abbrev pub either : Bool → Bool → Bool
+either a true = true
+either a false = a
+
+-- a change of the reference at κ may change the word at μ: itself, and with a field any count
 abbrev pub touches : Key → Key → Bool
-touches κ μ = same κ μ
+touches κ μ = either (same κ μ) (cond (isCount μ) (eqb (kind κ) 5) false)
 
 -- different keys have different addresses
 apart : (κ μ : Key) → Fits κ → Fits μ → same κ μ ≡ false → addr κ ≡ addr μ → ⊥
@@ -99,6 +109,19 @@ apart (field a c) (root b) v w e q = absurd (omega arith)
 apart (field a c) (flag b) v w e q = absurd (omega arith)
 apart (field a c) (state b) v w e q = absurd (omega arith)
 apart (field a c) (payload b) v w e q = absurd (omega arith)
+apart (head a) (inlist b) v w e q = absurd (omega arith)
+apart (root a) (inlist b) v w e q = absurd (omega arith)
+apart (flag a) (inlist b) v w e q = absurd (omega arith)
+apart (state a) (inlist b) v w e q = absurd (omega arith)
+apart (payload a) (inlist b) v w e q = absurd (omega arith)
+apart (field a c) (inlist b) v w e q = absurd (omega arith)
+apart (inlist a) (head b) v w e q = absurd (omega arith)
+apart (inlist a) (root b) v w e q = absurd (omega arith)
+apart (inlist a) (flag b) v w e q = absurd (omega arith)
+apart (inlist a) (state b) v w e q = absurd (omega arith)
+apart (inlist a) (payload b) v w e q = absurd (omega arith)
+apart (inlist a) (field b d) v w e q = absurd (omega arith)
+apart (inlist a) (inlist b) v w e q = eqb-false a b e (omega arith)
 apart (field a c) (field b d) v w e q =
     let x : eqb a b ≡ true = eq-eqb a b (omega arith) in let y : eqb c d ≡ true = eq-eqb c d (omega arith) in clash {b = both (eqb c d) (eqb a b)} (rw (x, y)) e
 
@@ -108,6 +131,7 @@ in-fits n (root r) v = v
 in-fits n (flag p) v = v
 in-fits n (state i) v = tt
 in-fits n (payload i) v = tt
+in-fits n (inlist i) v = tt
 in-fits n (field i k) v = v .1
 
 module _ (n : ℕ) where
@@ -118,6 +142,7 @@ module _ (n : ℕ) where
   addr-in (flag p) v = omega arith
   addr-in (state i) v = omega arith
   addr-in (payload i) v = omega arith
+  addr-in (inlist i) v = omega arith
   addr-in (field i k) v = omega arith
 
 pub get-put-apart : (img : Image) (κ : Key) (v : ℕ) (μ : Key) → Fits κ → Fits μ → same κ μ ≡ false → get (put img κ v) μ ≡ get img μ
@@ -136,30 +161,116 @@ module _ (n : ℕ) (img : Image) (κ : Key) (v : ℕ) where
   pub get-put-other : (μ : Key) → In n κ → In n μ → same κ μ ≡ false → get (put img κ v) μ ≡ get img μ
   get-put-other μ i j e = get-put-apart img κ v μ (in-fits n κ i) (in-fits n μ j) e
 
+-- the counts where a field loses a word, and gains one
+pub lose-keeps : (Q : Image → Type 0) (S j w : ℕ) (img : Image) → (abroad S j w ≡ true → Q (oneLess S w img)) → (abroad S j w ≡ false → Q img) → Q (lose S j w img)
+unfolding lose
+lose-keeps Q S j w img h k = go (abroad S j w) refl
+  where
+    go : (b : Bool) → abroad S j w ≡ b → Q (cond b (oneLess S w img) img)
+    go true e = h e
+    go false e = k e
+
+pub gain-keeps : (Q : Image → Type 0) (S j w : ℕ) (img : Image) → (abroad S j w ≡ true → Q (oneMore S w img)) → (abroad S j w ≡ false → Q img) → Q (gain S j w img)
+unfolding gain
+gain-keeps Q S j w img h k = go (abroad S j w) refl
+  where
+    go : (b : Bool) → abroad S j w ≡ b → Q (cond b (oneMore S w img) img)
+    go true e = h e
+    go false e = k e
+
+-- a key that is no count
+abbrev pub NoCount : Key → Type 0
+NoCount κ = isCount κ ≡ false
+
+count-apart : (i : ℕ) (μ : Key) → NoCount μ → same (inlist i) μ ≡ false
+count-apart i (head h) e = refl
+count-apart i (root r) e = refl
+count-apart i (flag p) e = refl
+count-apart i (state j) e = refl
+count-apart i (payload j) e = refl
+count-apart i (field j k) e = refl
+count-apart i (inlist j) e = absurd (clash refl e)
+
+-- the counts follow: no other word changes
+recount-apart : (S : ℕ) (img : Image) (κ : Key) (w : ℕ) (μ : Key) → Fits μ → cond (isCount μ) (eqb (kind κ) 5) false ≡ false → get (recount S img κ w) μ ≡ get img μ
+unfolding recount
+recount-apart S img (head h) w μ f e = refl
+recount-apart S img (root r) w μ f e = refl
+recount-apart S img (flag p) w μ f e = refl
+recount-apart S img (state j) w μ f e = refl
+recount-apart S img (payload j) w μ f e = refl
+recount-apart S img (inlist j) w μ f e = refl
+recount-apart S img (field j k) w μ f e = gained (lose S j (get img (field j k)) img) ∙ lost
+  where
+    none : (b : Bool) → cond b true false ≡ false → b ≡ false
+    none true q = absurd (clash refl q)
+    none false q = refl
+
+    apart-count : (i : ℕ) → same (inlist i) μ ≡ false
+    apart-count i = count-apart i μ (none (isCount μ) e)
+
+    lost : get (lose S j (get img (field j k)) img) μ ≡ get img μ
+    lost = lose-keeps (λ y. get y μ ≡ get img μ) S j (get img (field j k)) img (λ q. get-put-apart img (inlist (placeOf S (get img (field j k)))) _ μ tt f (apart-count _)) (λ q. refl)
+
+    gained : (y : Image) → get (gain S j w y) μ ≡ get y μ
+    gained y = gain-keeps (λ z. get z μ ≡ get y μ) S j w y (λ q. get-put-apart y (inlist (placeOf S w)) _ μ tt f (apart-count _)) (λ q. refl)
+
+either-false : (a b : Bool) → either a b ≡ false → (a ≡ false) × (b ≡ false)
+either-false a true e = absurd (clash refl e)
+either-false a false e = (e, refl)
+
+-- what a change does not touch is another word
+pub touches-same : (κ μ : Key) → touches κ μ ≡ false → same κ μ ≡ false
+touches-same κ μ e = either-false (same κ μ) (cond (isCount μ) (eqb (kind κ) 5) false) e .0
+
+pub same-touches : (κ μ : Key) → NoCount μ → same κ μ ≡ false → touches κ μ ≡ false
+same-touches κ μ n e = rw (n, e)
+
 pub refer-apart : (S : ℕ) (img : Image) (κ : Key) (w : ℕ) (μ : Key) → Fits κ → Fits μ → touches κ μ ≡ false → get (refer S img κ w) μ ≡ get img μ
 unfolding refer
-refer-apart S img κ w μ i j e = get-put-apart img κ w μ i j e
+refer-apart S img κ w μ i j e =
+    let d = either-false (same κ μ) (cond (isCount μ) (eqb (kind κ) 5) false) e in
+    get-put-apart (recount S img κ w) κ w μ i j (d .0) ∙ recount-apart S img κ w μ j (d .1)
 
 pub release-apart : (S : ℕ) (img : Image) (κ μ : Key) → Fits κ → Fits μ → touches κ μ ≡ false → get (release S img κ) μ ≡ get img μ
 unfolding release
-release-apart S img κ μ i j e = get-put-apart img κ 0 μ i j e
+release-apart S img κ μ i j e =
+    let d = either-false (same κ μ) (cond (isCount μ) (eqb (kind κ) 5) false) e in
+    get-put-apart (recount S img κ 0) κ 0 μ i j (d .0) ∙ recount-apart S img κ 0 μ j (d .1)
 
 module _ (n S : ℕ) (img : Image) (κ : Key) where
+  pub sized-recount : (w : ℕ) → Sized n img → Sized n (recount S img κ w)
+  unfolding recount
+  sized-recount w z = go κ
+    where
+      go : (κ : Key) → Sized n (recount S img κ w)
+      go (head h) = z
+      go (root r) = z
+      go (flag p) = z
+      go (state j) = z
+      go (payload j) = z
+      go (inlist j) = z
+      go (field j k) =
+          gain-keeps (Sized n) S j w _ (λ e. sized-put n _ _ _ lost) (λ e. lost)
+        where
+          lost : Sized n (lose S j (get img (field j k)) img)
+          lost = lose-keeps (Sized n) S j (get img (field j k)) img (λ e. sized-put n _ _ _ z) (λ e. z)
+
   pub sized-refer : (w : ℕ) → Sized n img → Sized n (refer S img κ w)
   unfolding refer
-  sized-refer w z = sized-put n img κ w z
+  sized-refer w z = sized-put n (recount S img κ w) κ w (sized-recount w z)
 
   pub refer-same : (w : ℕ) → Sized n img → In n κ → get (refer S img κ w) κ ≡ w
   unfolding refer
-  refer-same w z i = get-put-same n img κ w z i
+  refer-same w z i = get-put-same n (recount S img κ w) κ w (sized-recount w z) i
 
   pub sized-release : Sized n img → Sized n (release S img κ)
   unfolding release
-  sized-release z = sized-put n img κ 0 z
+  sized-release z = sized-put n (recount S img κ 0) κ 0 (sized-recount 0 z)
 
   pub release-same : Sized n img → In n κ → get (release S img κ) κ ≡ 0
   unfolding release
-  release-same z i = get-put-same n img κ 0 z i
+  release-same z i = get-put-same n (recount S img κ 0) κ 0 (sized-recount 0 z) i
 
 -- every word of an image of n places has a key, so two images that agree at each key are one
 key-at : (n a : ℕ) → a < front + stride * n → (κ : Key) × In n κ × (addr κ ≡ a)
@@ -170,8 +281,9 @@ key-at n a l =
     (λ r. ⊎-elim (λ f. (flag (a - 21), omega arith, omega arith))
     (λ f. ⊎-elim (λ c. (state ((a - front) / stride), omega arith, omega arith))
     (λ c. ⊎-elim (λ d. (payload ((a - front) / stride), omega arith, omega arith))
-    (λ d. (field ((a - front) / stride) ((a - front) % stride - 2), (omega arith, omega arith), omega arith))
-    (lt-or-ge ((a - front) % stride) 2)) (lt-or-ge ((a - front) % stride) 1)) (lt-or-ge a front)) (lt-or-ge a 21)) (lt-or-ge a 5)
+    (λ d. ⊎-elim (λ e. (field ((a - front) / stride) ((a - front) % stride - 2), (omega arith, omega arith), omega arith))
+    (λ e. (inlist ((a - front) / stride), omega arith, omega arith))
+    (lt-or-ge ((a - front) % stride) 6)) (lt-or-ge ((a - front) % stride) 2)) (lt-or-ge ((a - front) % stride) 1)) (lt-or-ge a front)) (lt-or-ge a 21)) (lt-or-ge a 5)
 
 pub words-same : (n : ℕ) (y z : Image) → Sized n y → Sized n z → ((κ : Key) → In n κ → get y κ ≡ get z κ) → y ≡ z
 unfolding Sized get

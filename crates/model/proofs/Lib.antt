@@ -6,10 +6,18 @@ pub mod Tracing
 pub mod Committing
 pub mod Opening
 pub mod Closing
+pub mod Freeing
 pub mod Making
+pub mod Counting
+pub mod Bits
+pub mod Asking
+pub mod Localizing
 pub mod Soundness
 pub mod SoundnessMoves
 pub mod SoundnessActs
+pub mod Collecting
+pub mod Naming
+pub mod Outlists
 pub mod Reaching
 pub mod Refusing
 pub mod Numbers
@@ -17,8 +25,6 @@ pub mod Bound
 pub mod Chaining
 pub mod Splitting
 pub mod Progress
-pub mod Bits
-pub mod Asking
 pub mod Quiet
 pub mod Demand
 pub mod Answers

@@ -1,6 +1,6 @@
 -- Every accepted act is a row of moves: a word put, a reference stored, a freed object's reference released. What each of these keeps, every act keeps.
 -- Assumes nothing.
-use Prim.Native.Nat.{ℕ, _*_, _≤_, _<_}
+use Prim.Native.Nat.{ℕ, _+_, _*_, _≤_, _<_}
 use mathlib.Core.Path.{_≡_, refl, _∙_}
 use mathlib.Core.Bool.{Bool, true, false, cond}
 use mathlib.Core.Logic.{_≢_}
@@ -12,8 +12,9 @@ use Rattle.kinds.specs.declared.Target.{Target}
 use Rattle.kinds.specs.declared.Operation.{Operation}
 use Rattle.kinds.specs.declared.Verdict.the-variants.{Accepted}
 use Rattle.model.specs.Image.{Image, Key, head, flag, state, payload, phase, count, allowance, get, put, placeOf, refer, release, Holder, a-root, a-field}
-use Rattle.model.specs.Acts.{Act, commit, opening, closing, trace, isOpen, mark, markWord, store, born, perform, unclean, allow, openUp, finish, traceOne, clear, shut, closeUp, apply}
+use Rattle.model.specs.Acts.{Act, commit, opening, closing, trace, local, localBits, freeBut, localUp, isOpen, mark, markWord, store, born, perform, unclean, allow, openUp, finish, traceOne, clear, shut, closeUp, apply}
 use Rattle.model.specs.Judge.{judge}
+use Rattle.model.specs.Questions.{hasBit}
 use Rattle.model.proofs.Keys.{Fits, same, in-fits, get-put-apart, refer-apart, release-apart}
 use Rattle.model.proofs.Places.{Shape, parts, slot-in}
 use Rattle.model.proofs.Moves.{holder-in, Linked, holder-head, mark-keeps}
@@ -107,11 +108,19 @@ module _ (P S : ℕ) (shape : Shape P S) (x : Image) where
   unfolding clear
   made-clear y i l q = each-keeps From 4 _ (λ z k lk r. released (a-field l lk) r) _ (worded _ payload-word (worded _ state-word q))
 
-  made-close : From (closeUp P S x)
+  pub made-close : From (closeUp P S x)
   unfolding closeUp shut
   made-close =
       worded _ allowance-word (worded _ count-word (worded _ phase-word
       (made-unclean _ (each-keeps From (P * S) _ (λ z i l q. settle-cases S From z i (λ e. made-clear z i l q) (λ e. worded _ state-word q) (λ a b. q)) x as-is))))
+
+  pub made-local : (p : ℕ) → p < P → From (localUp P S p x)
+  unfolding localUp freeBut
+  made-local p l = each-keeps From S _ (λ z s ls q. stay z (p * S + s) (slot-in P S (shape .some-slot) p s l ls) q (hasBit (localBits P S p x) (p * S + s))) x as-is
+    where
+      stay : (z : Image) (i : ℕ) → i < P * S → From z → (b : Bool) → From (cond b z (clear S z i))
+      stay z i li q true = q
+      stay z i li q false = made-clear z i li q
 
   pub made : (a : Act) → judge P S x a ≡ Accepted → Linked P S x → From (apply P S x a)
   unfolding judge apply
@@ -119,3 +128,4 @@ module _ (P S : ℕ) (shape : Shape P S) (x : Image) where
   made opening j w = made-open w
   made (trace p) j w = made-trace p (ltb-true _ _ (check-true _ _ _ _ (check-true _ _ _ _ j .1) .0)) w
   made closing j w = made-close
+  made (local p) j w = made-local p (ltb-true _ _ (check-true _ _ _ _ j .0))

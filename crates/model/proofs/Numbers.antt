@@ -1,4 +1,4 @@
--- Which numbers a refusal can have: 2 of format, 6 to 16 of an act, 7 to 9 of a name; 1, 3, 4, 5 and 17 are the calls' and recovery's. None is 0, so that number 0 is acceptance.
+-- Which numbers a refusal can have: 2 of format, 6 to 16 of an act, 7 to 9 of a name, 7 of an outlist; 1, 3, 4, 5 and 17 are the calls' and recovery's. None is 0, so that number 0 is acceptance.
 -- Assumes nothing.
 use Prim.Native.Nat.{ℕ, _+_, _≤_}
 use mathlib.Core.Bool.{Bool, true, false}
@@ -12,8 +12,8 @@ use Rattle.kinds.specs.declared.Refusal.{Refusal}
 use Rattle.kinds.specs.declared.Verdict.{Verdict}
 use Rattle.kinds.specs.declared.Verdict.the-variants.{Accepted, Refused}
 use Rattle.model.specs.Image.{Image}
-use Rattle.model.specs.Acts.{Act, commit, opening, closing, trace, perform}
-use Rattle.model.specs.Judge.{check, andThen, judge, judgeOp, judgeOps, judgeFormat, judgeName}
+use Rattle.model.specs.Acts.{Act, commit, opening, closing, trace, local, perform}
+use Rattle.model.specs.Judge.{check, andThen, judge, judgeOp, judgeOps, judgeFormat, judgeOutlist, judgeName}
 
 -- accepted, or refused with a number from lo to hi
 pub data Among (lo hi : ℕ) : Verdict → Type 0 where
@@ -64,6 +64,11 @@ act-among P S x closing =
     check-among _ 10 0 _ (omega arith) (omega arith)
     (check-among _ 12 0 _ (omega arith) (omega arith)
     (check-among _ 14 _ _ (omega arith) (omega arith) (check-among _ 16 0 _ (omega arith) (omega arith) accepted)))
+act-among P S x (local p) = check-among _ 7 0 _ (omega arith) (omega arith) (check-among _ 12 0 _ (omega arith) (omega arith) accepted)
+
+pub outlist-among : (P p : ℕ) → Among 7 7 (judgeOutlist P p)
+unfolding judgeOutlist
+outlist-among P p = check-among _ 7 0 _ (omega arith) (omega arith) accepted
 
 pub name-among : (P S : ℕ) (x : Image) (n : Name) → Among 7 9 (judgeName P S x n)
 unfolding judgeName

@@ -1,6 +1,6 @@
 -- Every heap that acts lead to from a formatting is shut, or in a phase whose invariants hold; and it is sound.
 -- Assumes nothing.
-use Prim.Native.Nat.{ℕ, _<_}
+use Prim.Native.Nat.{ℕ, _+_, _*_, _<_}
 use mathlib.Core.Path.{_≡_, _∙_}
 use mathlib.Core.Bool.{true, false}
 use mathlib.Core.List.{List}
@@ -10,20 +10,22 @@ use borrow.Author.Tests.{eqb-true, eqb-false, not-true, ltb-true}
 use Rattle.kinds.specs.declared.Operation.{Operation}
 use Rattle.kinds.specs.declared.Verdict.the-variants.{Accepted}
 use Rattle.model.specs.Image.{Image, flag, phase, addr, get, blank}
-use Rattle.model.specs.Acts.{Act, commit, opening, closing, trace, isOpen, perform, apply}
+use Rattle.model.specs.Acts.{Act, commit, opening, closing, trace, local, localBits, localUp, isOpen, perform, apply}
 use Rattle.model.specs.Judge.{led, judge}
 use Rattle.model.specs.Sound.{SoundAt}
 use Rattle.model.specs.History.{Run, still, acted}
-use Rattle.model.proofs.Keys.{blank-zero}
+use Rattle.model.proofs.Keys.{blank-zero, sized-length}
 use Rattle.model.proofs.Places.{Shape}
-use Rattle.model.proofs.Moves.{Linked, Phase}
+use Rattle.model.proofs.Moves.{Phase}
 use Rattle.model.proofs.Tracing.{phase-trace}
 use Rattle.model.proofs.Committing.{check-true, Good, commit-keeps, phase-perform, perform-head}
 use Rattle.model.proofs.Opening.{Shut, phase-open}
 use Rattle.model.proofs.Closing.{close-phase}
+use Rattle.model.specs.Questions.{hasBit}
+use Rattle.model.proofs.Freeing.{free-head, free-phase}
 use Rattle.model.proofs.Soundness.{limits-back}
 use Rattle.model.proofs.SoundnessMoves.{sound-linked}
-use Rattle.model.proofs.SoundnessActs.{act-sound, blank-sound}
+use Rattle.model.proofs.SoundnessActs.{act-sound, local-in, local-apart, blank-sound}
 
 module _ (P S : ℕ) (shape : Shape P S) where
   -- a heap that acts lead to is shut, or in a phase whose invariants hold
@@ -64,12 +66,18 @@ module _ (P S : ℕ) (shape : Shape P S) where
   heap-perform x o g (inl e) = inl (perform-head P S shape x o 2 (omega arith) g ∙ e)
   heap-perform x o g (inr ph) = inr (phase-perform P S shape x o g ph)
 
-  heap-keeps : (x : Image) (a : Act) → judge P S x a ≡ Accepted → Linked P S x → Heap x → Heap (apply P S x a)
-  unfolding judge apply
+  heap-keeps : (x : Image) (a : Act) → judge P S x a ≡ Accepted → SoundAt P S x → Heap x → Heap (apply P S x a)
+  unfolding judge apply localUp
   heap-keeps x (commit os) j w h = commit-keeps P S Heap heap-perform x 1 os (check-true _ _ _ _ j .1) h
-  heap-keeps x opening j w h = inr (phase-open P S shape x w)
+  heap-keeps x opening j s h = inr (phase-open P S shape x (sound-linked P S x s))
   heap-keeps x (trace p) j w h = let t = traced-is x p j in inr (phase-trace P S shape p (t .1) x (is-open x h (t .0)) (t .2))
-  heap-keeps x closing j w h = inl (close-phase P S shape x w)
+  heap-keeps x closing j s h = inl (close-phase P S shape x (sound-linked P S x s))
+  heap-keeps x (local p) j s (inl e) =
+      let l = ltb-true p P (check-true _ _ _ _ j .0) in
+      inl (free-head P S shape S (λ i. p * S + i) (hasBit (localBits P S p x)) (local-in P S x s p l) x (sized-length P S x (s .length-agrees)) (local-apart P S x s p l) 2 (omega arith) ∙ e)
+  heap-keeps x (local p) j s (inr ph) =
+      let l = ltb-true p P (check-true _ _ _ _ j .0) in
+      inr (free-phase P S shape S (λ i. p * S + i) (hasBit (localBits P S p x)) (local-in P S x s p l) x (sized-length P S x (s .length-agrees)) (local-apart P S x s p l) ph)
 
   -- What holds of every heap that acts lead to
   pub record Reached (x : Image) : Type 0 where
@@ -77,7 +85,7 @@ module _ (P S : ℕ) (shape : Shape P S) where
     pub heap : Heap x
 
   pub act-keeps : (x : Image) (a : Act) → judge P S x a ≡ Accepted → Reached x → Reached (apply P S x a)
-  act-keeps x a j g = record { sound = act-sound P S x a (g .sound) j; heap = heap-keeps x a j (sound-linked P S x (g .sound)) (g .heap) }
+  act-keeps x a j g = record { sound = act-sound P S x a (g .sound) j; heap = heap-keeps x a j (g .sound) (g .heap) }
 
   pub run-reached : (x : Image) → Reached x → (acts : List Act) (y : Image) → Run P S x acts y → Reached y
   run-reached x g _ _ still = g

@@ -18,7 +18,7 @@ use Rattle.kinds.specs.declared.Operation.the-variants.{New, Set, Val, Root}
 use Rattle.kinds.specs.declared.Verdict.{Verdict}
 use Rattle.kinds.specs.declared.Verdict.the-variants.{Accepted, Refused}
 use Rattle.model.specs.Image.{Image, Key, root, flag, state, field, count, allowance, anchors, get, placeOf, partOf, a-root, a-field}
-use Rattle.model.specs.Acts.{Act, commit, opening, closing, trace, marked, isOpen, perform, notClean}
+use Rattle.model.specs.Acts.{Act, commit, opening, closing, trace, local, marked, isOpen, perform, notClean}
 use Rattle.model.specs.Judge.{check, andThen, judgeOp, judgeOps, rooted, leadsOn, led, judge}
 use Rattle.model.proofs.Places.{Shape, parts}
 use Rattle.model.proofs.Moves.{Phase, open-true}
@@ -126,6 +126,7 @@ module _ (P S : ℕ) (shape : Shape P S) where
   mild x h closing =
       check-mild _ 10 0 _ (omega arith)
       (λ a. check-mild _ 12 0 _ (omega arith) (λ l. check-mild _ 14 _ _ (omega arith) (λ f. pass-mild _ 16 0 (marks-lead x (is-open P S shape x h a) (eqb-true _ _ f)))))
+  mild x h (local p) = check-mild _ 7 0 _ (omega arith) (λ a. check-mild _ 12 0 _ (omega arith) (λ b. tt))
 
   -- 15 and 16 never come
   pub never-15-16 : (x : Image) → Heap P S shape x → (a : Act) (e : ℕ) → (judge P S x a ≢ refuse 15 e) × (judge P S x a ≢ refuse 16 e)

@@ -15,7 +15,7 @@ use Rattle.model.specs.Image.{Image, Key, root, flag, state, payload, fi
 use Rattle.model.specs.Acts.{used, marked, isOpen}
 use Rattle.model.specs.Judge.{inLimits}
 use Rattle.model.proofs.Places.{Shape}
-use Rattle.model.specs.Sound.{inRange, refOk, freeOk, slotOk, rootOk, flagOk, flagDown, unmarkedAt, openOk, shutOk, soundAt, isSound, NamesUsed, Free, ShutHead, OpenHead, SoundAt, Sound}
+use Rattle.model.specs.Sound.{inRange, refOk, freeOk, slotOk, countOk, Right, rootOk, flagOk, flagDown, unmarkedAt, openOk, shutOk, soundAt, isSound, NamesUsed, Free, ShutHead, OpenHead, SoundAt, Sound}
 
 -- what a test of the form "this, or else that" tells, and how it passes
 cond-true : (a b : Bool) → cond a true b ≡ true → a ≡ false → b ≡ true
@@ -130,7 +130,7 @@ module _ (P : ℕ) (x : Image) (p : ℕ) where
       (le-leb (get x (flag p)) 1 (h .low))
       (cond-so (ltb p P) (eqb (get x (flag p)) 0) (λ q. eq-eqb (get x (flag p)) 0 (h .beyond (ltb-false p P q))))
 
--- the state of a place is known, its references name slots in use, and free it is six zeros
+-- the state of a place is known, its references name slots in use, and free it is zeros
 pub record SlotOk (P S : ℕ) (x : Image) (j : ℕ) : Type 0 where
   pub known : get x (state j) ≤ 2
   pub refers : (k : ℕ) → k < 4 → get x (field j k) ≢ 0 → NamesUsed P S x (field j k)
@@ -193,6 +193,15 @@ module _ (P S : ℕ) (x : Image) where
     where
       unused : used x j ≡ false → get x (state j) ≡ 0
       unused e = ⊎-elim (λ z. z) (λ n. absurd (clash {b = used x j} (used-back x j n) e)) (eq-or-ne (get x (state j)) 0)
+
+  -- the counts
+  pub right-true : every (P * S) (countOk S (P * S) x) ≡ true → Right (P * S) S x
+  unfolding countOk
+  right-true e = record { counts = λ i l. eqb-true _ _ (every-true (P * S) (countOk S (P * S) x) e i l) }
+
+  pub right-back : Right (P * S) S x → every (P * S) (countOk S (P * S) x) ≡ true
+  unfolding countOk
+  right-back r = every-so (P * S) (countOk S (P * S) x) (λ i l. eq-eqb _ _ (r .counts i l))
 
   -- the head of an open phase, and of a shut one
   pub open-true : openOk P S x ≡ true → OpenHead P S x
@@ -260,7 +269,8 @@ module _ (P S : ℕ) (x : Image) where
       let b = both-true (eqb (lengthOf x) (size P S)) _ (a .1) in
       let d = both-true (leb (get x phase) 1) _ (b .1) in
       let f = both-true (every (P * S) (slotOk P S x)) _ (d .1) in
-      let g = both-true (every anchors (rootOk P S x)) _ (f .1) in
+      let c = both-true (every (P * S) (countOk S (P * S) x)) _ (f .1) in
+      let g = both-true (every anchors (rootOk P S x)) _ (c .1) in
       let h = both-true (every mostPartitions (flagOk P x)) phaseOk (g .1) in
       let lim = limits-true P S (a .0) in
       record {
@@ -273,6 +283,7 @@ module _ (P S : ℕ) (x : Image) where
         states = λ j l. slot-true j (every-true (P * S) (slotOk P S x) (f .0) j l) .known;
         free-slots = λ j l. slot-true j (every-true (P * S) (slotOk P S x) (f .0) j l) .free;
         references = refs (f .0) (g .0);
+        right = right-true (c .0);
         flag-bits = λ p l. flag-true P x p (every-true mostPartitions (flagOk P x) (h .0) p l) .low;
         flags-beyond = λ p l. flag-true P x p (every-true mostPartitions (flagOk P x) (h .0) p l) .beyond;
         shut = phase-shut (h .1);
@@ -307,6 +318,7 @@ module _ (P S : ℕ) (x : Image) where
         eq-eqb (lengthOf x) (size P S) (h .length-agrees),
         le-leb (get x phase) 1 (h .phase-bit),
         every-so (P * S) (slotOk P S x) (λ j l. slot-back j (sound-slot h j l)),
+        right-back (h .right),
         every-so anchors (rootOk P S x) (λ r l. root-back r (h .references (root r) (a-root l))),
         every-so mostPartitions (flagOk P x) (λ p l. flag-back P x p (sound-flag h p l)),
       )

@@ -18,19 +18,23 @@ use Rattle.kinds.specs.declared.Target.{Target}
 use Rattle.kinds.specs.declared.Target.the-variants.{Object}
 use Rattle.kinds.specs.declared.Operation.{Operation}
 use Rattle.kinds.specs.declared.Verdict.the-variants.{Accepted}
-use Rattle.model.specs.Image.{Image, Key, addr, blank, partitions, slots, head, root, flag, state, payload, field, phase, count, allowance, anchors, get, put, place, placeOf, Holder, a-root, a-field}
-use Rattle.model.specs.Acts.{Act, commit, opening, closing, trace, marked, closeUp, refers, target, own, foreign, mark, markWord, perform, unmarked, unclean, markRoots, allow, openUp, inside, outside, finish, traceOne, apply}
+use Rattle.model.specs.Image.{Image, Key, addr, blank, partitions, slots, head, root, flag, state, payload, inlist, field, phase, count, allowance, anchors, get, put, place, placeOf, Holder, a-root, a-field}
+use Rattle.model.specs.Acts.{Act, commit, opening, closing, trace, local, localBits, localUp, marked, closeUp, refers, target, own, foreign, mark, markWord, perform, unmarked, unclean, markRoots, allow, openUp, inside, outside, finish, traceOne, apply}
 use Rattle.model.specs.Judge.{inLimits, led, judge}
 use Rattle.model.specs.History.{Run, still, acted}
-use Rattle.model.specs.Sound.{isSound, Sound, NamesUsed, ShutHead, SoundAt}
-use Rattle.model.proofs.Keys.{Sized, get-put-apart, get-put-same, sized-put, zeros, blank-sized, blank-partitions, blank-slots, blank-zero}
+use Rattle.model.specs.Sound.{isSound, Sound, NamesUsed, Right, ShutHead, SoundAt}
+use Rattle.model.proofs.Keys.{Sized, sized-length, get-put-apart, get-put-same, sized-put, zeros, blank-sized, blank-partitions, blank-slots, blank-zero}
 use Rattle.model.proofs.Places.{Shape, slot-in, word-none, place-word}
 use Rattle.model.proofs.Spreading.{pass-keeps, spread-keeps}
 use Rattle.model.proofs.Moves.{Linked}
 use Rattle.model.proofs.Tracing.{refers-is}
 use Rattle.model.proofs.Committing.{check-true, May, none, some, Good, good-new, good-set, good-val, good-root, commit-keeps}
 use Rattle.model.proofs.Closing.{Content, the-payload, the-field, Leading, led-leads, close-size, close-phase, close-count, close-allowance, close-flag, close-state, close-freed, close-kept, close-root}
-use Rattle.model.proofs.Making.{made, made-heading}
+use Rattle.model.proofs.Making.{made, made-close, made-local, made-heading}
+use Rattle.model.proofs.Counting.{right-put, right-made, right-blank}
+use Rattle.model.specs.Questions.{hasBit}
+use Rattle.model.proofs.Freeing.{Apart, free-sound}
+use Rattle.model.proofs.Localizing.{choice, local-roots, local-fields}
 use Rattle.model.proofs.Soundness.{limits-true, sound-limits, sound-true, sound-back, sound-not}
 use Rattle.model.proofs.SoundnessMoves.{WordUsed, Body, Head, Holds, sound-of, sound-linked, sound-body, put-written, holds-self, holds-more, open-head, head-written, holds-flag, holds-mark, holds-mark-word, holds-payload, holds-store, holds-born, reference-place}
 
@@ -46,7 +50,7 @@ word-slot q l = omega arith
 module _ (P S : ℕ) where
   -- a word of the head
   sound-put : (x : Image) (h v : ℕ) → h < 5 → SoundAt P S x → Head P S (put x (head h) v) → SoundAt P S (put x (head h) v)
-  sound-put x h v l s t = head-written P S (put-written (P * S) x (head h) v (sound-body P S x s .sized) l) s t
+  sound-put x h v l s t = head-written P S (right-put (P * S) S x (head h) v l (λ j k. refl) (λ i. refl)) (put-written (P * S) x (head h) v (sound-body P S x s .sized) l) s t
 
   -- COMMIT: a target that may be stored, and one operation
   target-word : (x : Image) (t : Target) → SoundAt P S x → May P S x t → wordOf t ≢ 0 → WordUsed P S x (wordOf t)
@@ -218,6 +222,7 @@ module _ (P S : ℕ) where
                 fields = λ k m. closed-content (the-field m) l e (λ q. s .free-slots j l q .fields k m);
               };
           references = closed-references;
+          right = right-made (P * S) S (made-close P S shape x) (sized-length P S x (s .length-agrees)) (s .right);
           flag-bits = λ p l. let e = close-flag P S shape x linked p l in omega arith;
           flags-beyond = λ p l m. close-flag P S shape x linked p l;
         }
@@ -242,6 +247,31 @@ module _ (P S : ℕ) where
     unfolding after
     close-sound = sound-of P S after shape closed-body closed-head
 
+  -- LOCAL: with right counts, roots and what stays refer to what stays
+  module _ (x : Image) (s : SoundAt P S x) (p : ℕ) (l : p < P) where
+    refs : (κ : Key) → Holder (P * S) κ → get x κ ≢ 0 → placeOf S (get x κ) < P * S
+    refs κ h n = reference-place P S x κ h n s
+
+    pub local-in : (j : ℕ) → j < S → p * S + j < P * S
+    local-in j lj = slot-in P S (s .some-slot) p j l lj
+
+    pub local-apart : Apart P S S (λ j. p * S + j) (hasBit (localBits P S p x)) x
+    local-apart =
+        record {
+          choice = choice P S (s .some-slot) p l x refs;
+          roots = local-roots P S (s .some-slot) p l x refs (s .right);
+          fields = local-fields P S (s .some-slot) p l x refs (s .right);
+        }
+
+    pub local-sound : SoundAt P S (localUp P S p x)
+    unfolding localUp
+    local-sound =
+        let z = sized-length P S x (s .length-agrees) in
+        free-sound P S (sound-limits P S x s) S (λ j. p * S + j) (hasBit (localBits P S p x)) local-in x z local-apart s local-right
+      where
+        local-right : Right (P * S) S (localUp P S p x)
+        local-right = right-made (P * S) S (made-local P S (sound-limits P S x s) x p l) (sized-length P S x (s .length-agrees)) (s .right)
+
   -- EVERY ACT
   pub act-sound : (x : Image) (a : Act) → SoundAt P S x → judge P S x a ≡ Accepted → SoundAt P S (apply P S x a)
   unfolding judge apply
@@ -262,6 +292,7 @@ module _ (P S : ℕ) where
       let b = check-true _ _ _ _ (a .1) in
       let c = check-true _ _ _ _ (b .1) in
       close-sound x s (check-true _ _ _ _ (c .1) .0)
+  act-sound x (local p) s j = local-sound x s p (ltb-true p P (check-true _ _ _ _ j .0))
 
   -- words 0 and 1 stay
   act-words : (x : Image) (a : Act) (h : ℕ) → h < 2 → SoundAt P S x → judge P S x a ≡ Accepted → get (apply P S x a) (head h) ≡ get x (head h)
@@ -326,6 +357,7 @@ module _ (P S : ℕ) where
               fields = λ k m. blank-holder (field j k) (a-field l m);
             };
         references = λ κ h n. absurd (n (blank-holder κ h));
+        right = right-blank (P * S) S (blank P S) (λ j k m. blank-zero P S (field j k) (omega arith)) (λ i. blank-zero P S (inlist i) (omega arith));
         flag-bits = λ p l. let e = blank-flag p in omega arith;
         flags-beyond = λ p l m. blank-flag p;
       }

@@ -11,13 +11,14 @@ use Rattle.loops.specs.Loop.{both}
 use Rattle.loops.proofs.Tests.{both-true}
 use Rattle.kinds.specs.Names.{radix, mostPartitions, wordOf}
 use Rattle.kinds.specs.declared.Target.{Target}
-use Rattle.model.specs.Image.{Image, Key, head, root, flag, state, payload, field, phase, count, allowance, get, put, placeOf, partOf, refer, Holder, a-root, a-field}
+use Rattle.model.specs.Image.{Image, Key, head, root, flag, state, payload, inlist, field, phase, count, allowance, get, put, placeOf, partOf, refer, Holder, a-root, a-field}
 use Rattle.model.specs.Acts.{isOpen, mark, markWord, store, born}
-use Rattle.model.specs.Sound.{NamesUsed, Free, ShutHead, OpenHead, SoundAt}
-use Rattle.model.proofs.Keys.{Fits, In, Sized, kind, major, minor, same, touches, in-fits, get-put-apart, get-put-same, sized-put, refer-apart, refer-same, sized-refer, sized-length, length-sized}
+use Rattle.model.specs.Sound.{NamesUsed, Free, Right, ShutHead, OpenHead, SoundAt}
+use Rattle.model.proofs.Keys.{Fits, In, Sized, kind, major, minor, same, touches, NoCount, touches-same, same-touches, in-fits, get-put-apart, get-put-same, sized-put, refer-apart, refer-same, sized-refer, sized-length, length-sized}
 use Rattle.model.proofs.Places.{Shape, parts, slot-in}
 use Rattle.model.proofs.Moves.{Linked, mark-keeps}
 use Rattle.model.proofs.Committing.{mark-word-keeps}
+use Rattle.model.proofs.Counting.{right-put, right-refer}
 use Rattle.model.proofs.Soundness.{sound-limits}
 
 -- a key from its numbers
@@ -27,7 +28,8 @@ build (suc zero) m a = root a
 build (suc (suc zero)) m a = flag a
 build (suc (suc (suc zero))) m a = state a
 build (suc (suc (suc (suc zero)))) m a = payload a
-build (suc (suc (suc (suc (suc n))))) m a = field a m
+build (suc (suc (suc (suc (suc zero))))) m a = field a m
+build (suc (suc (suc (suc (suc (suc n)))))) m a = inlist a
 
 build-key : (κ : Key) → build (kind κ) (minor κ) (major κ) ≡ κ
 unfolding build
@@ -36,6 +38,7 @@ build-key (root r) = refl
 build-key (flag p) = refl
 build-key (state j) = refl
 build-key (payload j) = refl
+build-key (inlist j) = refl
 build-key (field j k) = refl
 
 same-key : (κ μ : Key) → same κ μ ≡ true → κ ≡ μ
@@ -59,7 +62,7 @@ module _ (n : ℕ) (x : Image) (κ : Key) (v : ℕ) (z : Sized n x) (i : In n κ
       record {
         sized = sized-put n x κ v z;
         here = get-put-same n x κ v z i;
-        others = λ μ f e. get-put-apart x κ v μ (in-fits n κ i) f e;
+        others = λ μ f e. get-put-apart x κ v μ (in-fits n κ i) f (touches-same κ μ e);
       }
 
   pub refer-written : (S : ℕ) → Written n x κ v (refer S x κ v)
@@ -71,13 +74,13 @@ module _ (n : ℕ) (x : Image) (κ : Key) (v : ℕ) (z : Sized n x) (i : In n κ
       }
 
 module _ {n : ℕ} {x y : Image} {κ : Key} {v : ℕ} (w : Written n x κ v y) where
-  -- a word is the one that was written, or as before
-  pub written-read : (μ : Key) → Fits μ → ((κ ≡ μ) × (get y μ ≡ v)) ⊎ (get y μ ≡ get x μ)
-  written-read μ f = go (same κ μ) refl
+  -- a word that is no count is the one that was written, or as before
+  pub written-read : (μ : Key) → Fits μ → NoCount μ → ((κ ≡ μ) × (get y μ ≡ v)) ⊎ (get y μ ≡ get x μ)
+  written-read μ f c = go (same κ μ) refl
     where
       go : (b : Bool) → same κ μ ≡ b → ((κ ≡ μ) × (get y μ ≡ v)) ⊎ (get y μ ≡ get x μ)
       go true e = let q = same-key κ μ e in inl (q, subst (λ (t : Key). get y t ≡ v) q (w .here))
-      go false e = inr (w .others μ f e)
+      go false e = inr (w .others μ f (same-touches κ μ c e))
 
 -- a word that names a slot in use
 pub record WordUsed (P S : ℕ) (x : Image) (w : ℕ) : Type 0 where
@@ -92,6 +95,7 @@ Allowed P S x v (root r) = v ≢ 0 → WordUsed P S x v
 Allowed P S x v (flag p) = (v ≤ 1) × (P ≤ p → v ≡ 0)
 Allowed P S x v (state j) = (v ≢ 0) × (v ≤ 2)
 Allowed P S x v (payload j) = get x (state j) ≢ 0
+Allowed P S x v (inlist j) = ⊥
 Allowed P S x v (field j k) = (get x (state j) ≢ 0) × (v ≢ 0 → WordUsed P S x v)
 
 -- what soundness asks of the slots, the roots and the flags, whatever the phase
@@ -100,6 +104,7 @@ pub record Body (P S : ℕ) (x : Image) : Type 0 where
   pub states : (j : ℕ) → j < P * S → get x (state j) ≤ 2
   pub free-slots : (j : ℕ) → j < P * S → get x (state j) ≡ 0 → Free x j
   pub references : (κ : Key) → Holder (P * S) κ → get x κ ≢ 0 → NamesUsed P S x κ
+  pub right : Right (P * S) S x
   pub flag-bits : (p : ℕ) → p < mostPartitions → get x (flag p) ≤ 1
   pub flags-beyond : (p : ℕ) → p < mostPartitions → P ≤ p → get x (flag p) ≡ 0
 
@@ -117,6 +122,7 @@ module _ (P S : ℕ) where
         states = h .states;
         free-slots = h .free-slots;
         references = h .references;
+        right = h .right;
         flag-bits = h .flag-bits;
         flags-beyond = h .flags-beyond;
       }
@@ -136,36 +142,38 @@ module _ (P S : ℕ) where
         states = b .states;
         free-slots = b .free-slots;
         references = b .references;
+        right = b .right;
         flag-bits = b .flag-bits;
         flags-beyond = b .flags-beyond;
         shut = h .shut;
         opened = h .opened;
       }
 
-  module _ {x y : Image} {κ : Key} {v : ℕ} (may : Allowed P S x v κ) (w : Written (P * S) x κ v y) where
+  module _ {x y : Image} {κ : Key} {v : ℕ} (may : Allowed P S x v κ) (counts : Right (P * S) S x → Right (P * S) S y) (w : Written (P * S) x κ v y) where
     at : (μ : Key) → κ ≡ μ → Allowed P S x v μ
     at μ e = subst (Allowed P S x v) e may
 
     -- what is in use stays so
     pub written-used : (j : ℕ) → get x (state j) ≢ 0 → get y (state j) ≢ 0
-    written-used j u z = ⊎-elim (λ q. at (state j) (q .0) .0 (sym (q .1) ∙ z)) (λ q. u (sym q ∙ z)) (written-read w (state j) tt)
+    written-used j u z = ⊎-elim (λ q. at (state j) (q .0) .0 (sym (q .1) ∙ z)) (λ q. u (sym q ∙ z)) (written-read w (state j) tt refl)
 
     pub body-written : Body P S x → Body P S y
     body-written b =
         record {
           sized = w .sized;
-          states = λ j l. ⊎-elim (λ q. rw (q .1) (at (state j) (q .0) .1)) (λ q. rw q (b .states j l)) (written-read w (state j) tt);
-          free-slots = λ j l z. free j (b .free-slots j l) (⊎-elim (λ q. absurd (at (state j) (q .0) .0 (sym (q .1) ∙ z))) (λ q. sym q ∙ z) (written-read w (state j) tt));
+          states = λ j l. ⊎-elim (λ q. rw (q .1) (at (state j) (q .0) .1)) (λ q. rw q (b .states j l)) (written-read w (state j) tt refl);
+          free-slots = λ j l z. free j (b .free-slots j l) (⊎-elim (λ q. absurd (at (state j) (q .0) .0 (sym (q .1) ∙ z))) (λ q. sym q ∙ z) (written-read w (state j) tt refl));
           references = refs;
-          flag-bits = λ p l. ⊎-elim (λ q. rw (q .1) (at (flag p) (q .0) .0)) (λ q. rw q (b .flag-bits p l)) (written-read w (flag p) l);
-          flags-beyond = λ p l m. ⊎-elim (λ q. q .1 ∙ at (flag p) (q .0) .1 m) (λ q. q ∙ b .flags-beyond p l m) (written-read w (flag p) l);
+          right = counts (b .right);
+          flag-bits = λ p l. ⊎-elim (λ q. rw (q .1) (at (flag p) (q .0) .0)) (λ q. rw q (b .flag-bits p l)) (written-read w (flag p) l refl);
+          flags-beyond = λ p l m. ⊎-elim (λ q. q .1 ∙ at (flag p) (q .0) .1 m) (λ q. q ∙ b .flags-beyond p l m) (written-read w (flag p) l refl);
         }
       where
         free : (j : ℕ) → (get x (state j) ≡ 0 → Free x j) → get x (state j) ≡ 0 → Free y j
         free j h z =
             record {
-              value = ⊎-elim (λ q. absurd (at (payload j) (q .0) z)) (λ q. q ∙ h z .value) (written-read w (payload j) tt);
-              fields = λ k l. ⊎-elim (λ q. absurd (at (field j k) (q .0) .0 z)) (λ q. q ∙ h z .fields k l) (written-read w (field j k) l);
+              value = ⊎-elim (λ q. absurd (at (payload j) (q .0) z)) (λ q. q ∙ h z .value) (written-read w (payload j) tt refl);
+              fields = λ k l. ⊎-elim (λ q. absurd (at (field j k) (q .0) .0 z)) (λ q. q ∙ h z .fields k l) (written-read w (field j k) l refl);
             }
 
         fresh : (μ : Key) → get y μ ≡ v → (v ≢ 0 → WordUsed P S x v) → get y μ ≢ 0 → NamesUsed P S y μ
@@ -188,10 +196,10 @@ module _ (P S : ℕ) where
 
         refs : (μ : Key) → Holder (P * S) μ → get y μ ≢ 0 → NamesUsed P S y μ
         refs _ (a-root {r = r} l) =
-            ⊎-elim (λ q. fresh (root r) (q .1) (at (root r) (q .0))) (λ q. old (root r) q (b .references (root r) (a-root l))) (written-read w (root r) l)
+            ⊎-elim (λ q. fresh (root r) (q .1) (at (root r) (q .0))) (λ q. old (root r) q (b .references (root r) (a-root l))) (written-read w (root r) l refl)
         refs _ (a-field {j = j} {k = k} l m) =
             ⊎-elim (λ q. fresh (field j k) (q .1) (at (field j k) (q .0) .1)) (λ q. old (field j k) q (b .references (field j k) (a-field l m)))
-            (written-read w (field j k) m)
+            (written-read w (field j k) m refl)
 
 -- a word outside the head, and what may be written there while the phase is shut: no flag, no mark
 abbrev pub Beside : Key → Type 0
@@ -200,6 +208,7 @@ Beside (root r) = Unit {0}
 Beside (flag p) = Unit {0}
 Beside (state j) = Unit {0}
 Beside (payload j) = Unit {0}
+Beside (inlist j) = ⊥
 Beside (field j k) = Unit {0}
 
 abbrev pub Quiet : ℕ → Key → Type 0
@@ -208,6 +217,7 @@ Quiet v (root r) = Unit {0}
 Quiet v (flag p) = v ≡ 0
 Quiet v (state j) = v ≢ 2
 Quiet v (payload j) = Unit {0}
+Quiet v (inlist j) = Unit {0}
 Quiet v (field j k) = Unit {0}
 
 beside-head : (κ : Key) → Beside κ → (h : ℕ) → touches κ (head h) ≡ false
@@ -216,6 +226,7 @@ beside-head (root r) b h = refl
 beside-head (flag p) b h = refl
 beside-head (state j) b h = refl
 beside-head (payload j) b h = refl
+beside-head (inlist j) b h = absurd b
 beside-head (field j k) b h = refl
 
 -- y is sound, has x's head, and in use what x has in use
@@ -241,18 +252,18 @@ module _ (P S : ℕ) where
   open-head x o a c = record { phase-bit = omega arith; shut = λ z. absurd (omega arith); opened = λ e. record { allowed = a; counted = c } }
 
   -- a word of the head
-  pub head-written : {x y : Image} {h v : ℕ} → Written (P * S) x (head h) v y → SoundAt P S x → Head P S y → SoundAt P S y
-  head-written {x} {y} {h} {v} w s e = sound-of P S y (sound-limits P S x s) (body-written P S {κ = head h} tt w (sound-body P S x s)) e
+  pub head-written : {x y : Image} {h v : ℕ} → (Right (P * S) S x → Right (P * S) S y) → Written (P * S) x (head h) v y → SoundAt P S x → Head P S y → SoundAt P S y
+  head-written {x} {y} {h} {v} c w s e = sound-of P S y (sound-limits P S x s) (body-written P S {κ = head h} tt c w (sound-body P S x s)) e
 
   -- a word beside it
   module _ {x y : Image} {κ : Key} {v : ℕ} (beside : Beside κ) (allowed : Allowed P S x v κ) (quiet : get x phase ≡ 0 → Quiet v κ)
-      (w : Written (P * S) x κ v y) where
+      (counts : Right (P * S) S x → Right (P * S) S y) (w : Written (P * S) x κ v y) where
     pub holds-written : SoundAt P S x → Holds P S x y
     holds-written s =
         record {
-          sound = sound-of P S y (sound-limits P S x s) (body-written P S allowed w (sound-body P S x s)) (phases (sound-head P S x s));
+          sound = sound-of P S y (sound-limits P S x s) (body-written P S allowed counts w (sound-body P S x s)) (phases (sound-head P S x s));
           heads = same-head;
-          in-use = written-used P S allowed w;
+          in-use = written-used P S allowed counts w;
         }
       where
         same-head : (h : ℕ) → h < 5 → get y (head h) ≡ get x (head h)
@@ -266,9 +277,9 @@ module _ (P S : ℕ) where
             record {
               counted = same-head 3 (omega arith) ∙ t .counted;
               allowed = same-head 4 (omega arith) ∙ t .allowed;
-              flags = λ p l. ⊎-elim (λ q. q .1 ∙ calm (flag p) z (q .0)) (λ q. q ∙ t .flags p l) (written-read w (flag p) l);
+              flags = λ p l. ⊎-elim (λ q. q .1 ∙ calm (flag p) z (q .0)) (λ q. q ∙ t .flags p l) (written-read w (flag p) l refl);
               unmarked = λ j l e.
-                  ⊎-elim (λ q. calm (state j) z (q .0) (sym (q .1) ∙ e)) (λ q. t .unmarked j l (sym q ∙ e)) (written-read w (state j) tt);
+                  ⊎-elim (λ q. calm (state j) z (q .0) (sym (q .1) ∙ e)) (λ q. t .unmarked j l (sym q ∙ e)) (written-read w (state j) tt refl);
             }
 
         phases : Head P S x → Head P S y
@@ -285,17 +296,17 @@ module _ (P S : ℕ) where
   -- The moves. A flag within the rule, down while the phase is shut
   pub holds-flag : (x : Image) (p v : ℕ) → p < mostPartitions → v ≤ 1 → (P ≤ p → v ≡ 0) → (get x phase ≡ 0 → v ≡ 0) → SoundAt P S x → Holds P S x (put x (flag p) v)
   holds-flag x p v l b f q s =
-      holds-written {κ = flag p} tt (b, f) q (put-written (P * S) x (flag p) v (sound-body P S x s .sized) l) s
+      holds-written {κ = flag p} tt (b, f) q (right-put (P * S) S x (flag p) v l (λ j k. refl) (λ i. refl)) (put-written (P * S) x (flag p) v (sound-body P S x s .sized) l) s
 
   -- a state in use, no mark while the phase is shut
   pub holds-state : (x : Image) (j v : ℕ) → j < P * S → v ≢ 0 → v ≤ 2 → (get x phase ≡ 0 → v ≢ 2) → SoundAt P S x → Holds P S x (put x (state j) v)
   holds-state x j v l u b q s =
-      holds-written {κ = state j} tt (u, b) q (put-written (P * S) x (state j) v (sound-body P S x s .sized) l) s
+      holds-written {κ = state j} tt (u, b) q (right-put (P * S) S x (state j) v tt (λ j k. refl) (λ i. refl)) (put-written (P * S) x (state j) v (sound-body P S x s .sized) l) s
 
   -- the payload of an object
   pub holds-payload : (x : Image) (j v : ℕ) → j < P * S → get x (state j) ≢ 0 → SoundAt P S x → Holds P S x (put x (payload j) v)
   holds-payload x j v l u s =
-      holds-written {κ = payload j} tt u (λ z. tt) (put-written (P * S) x (payload j) v (sound-body P S x s .sized) l) s
+      holds-written {κ = payload j} tt u (λ z. tt) (right-put (P * S) S x (payload j) v tt (λ j k. refl) (λ i. refl)) (put-written (P * S) x (payload j) v (sound-body P S x s .sized) l) s
 
   -- a mark of a place while the phase is open
   pub holds-mark : (x : Image) (j : ℕ) → j < P * S → get x phase ≡ 1 → SoundAt P S x → Holds P S x (mark S x j)
@@ -340,13 +351,14 @@ module _ (P S : ℕ) where
   HolderUsed x (flag p) = ⊥
   HolderUsed x (state j) = ⊥
   HolderUsed x (payload j) = ⊥
+  HolderUsed x (inlist j) = ⊥
   HolderUsed x (field j k) = get x (state j) ≢ 0
 
   pub holds-refer : (x : Image) (κ : Key) (w : ℕ) → Holder (P * S) κ → HolderUsed x κ → (w ≢ 0 → WordUsed P S x w) → SoundAt P S x → Holds P S x (refer S x κ w)
   holds-refer x _ w (a-root {r = r} l) u t s =
-      holds-written {κ = root r} tt t (λ z. tt) (refer-written (P * S) x (root r) w (sound-body P S x s .sized) l S) s
+      holds-written {κ = root r} tt t (λ z. tt) (right-refer (P * S) S x (root r) w (a-root l) (sound-body P S x s .sized)) (refer-written (P * S) x (root r) w (sound-body P S x s .sized) l S) s
   holds-refer x _ w (a-field {j = j} {k = k} l m) u t s =
-      holds-written {κ = field j k} tt (u, t) (λ z. tt) (refer-written (P * S) x (field j k) w (sound-body P S x s .sized) (l, m) S) s
+      holds-written {κ = field j k} tt (u, t) (λ z. tt) (right-refer (P * S) S x (field j k) w (a-field l m) (sound-body P S x s .sized)) (refer-written (P * S) x (field j k) w (sound-body P S x s .sized) (l, m) S) s
 
   holder-still : {x y : Image} {κ : Key} → Holder (P * S) κ → Holds P S x y → HolderUsed x κ → HolderUsed y κ
   holder-still (a-root l) h u = tt

@@ -4,11 +4,11 @@ use Prim.Native.Nat.{ℕ}
 use mathlib.Core.Path.{_≡_, refl, sym, ap, _∙_}
 use mathlib.Core.List.{List, [], _∷_, _++_}
 use native.Mathlib.Omega.{arith}
-use borrow.Author.Tests.{eqb-true}
+use borrow.Author.Tests.{eqb-true, ltb-true}
 use Rattle.kinds.specs.declared.Operation.{Operation}
 use Rattle.kinds.specs.declared.Verdict.the-variants.{Accepted}
 use Rattle.model.specs.Image.{Image, phase, addr, get, blank}
-use Rattle.model.specs.Acts.{Act, commit, opening, closing, trace, apply}
+use Rattle.model.specs.Acts.{Act, commit, opening, closing, trace, local, apply}
 use Rattle.model.specs.Judge.{judge}
 use Rattle.model.specs.History.{Run, still, acted, Unclosed}
 use Rattle.model.proofs.Keys.{blank-zero}
@@ -16,6 +16,7 @@ use Rattle.model.proofs.Places.{Shape}
 use Rattle.model.proofs.Committing.{check-true, commit-keeps, perform-head}
 use Rattle.model.proofs.Closing.{close-phase}
 use Rattle.model.proofs.SoundnessMoves.{sound-linked}
+use Rattle.model.proofs.Collecting.{local-head}
 use Rattle.model.proofs.Reaching.{traced-is, reached}
 
 -- y, after a history, is in a phase: its opening on the heap x, after the acts `earlier`, and the acts since
@@ -38,6 +39,10 @@ module _ (P S : ℕ) (shape : Shape P S) where
   closing-phase : {acts : List Act} {y : Image} → Run P S (blank P S) acts y → get (apply P S y closing) phase ≡ 0
   unfolding apply
   closing-phase {acts} {y} r = close-phase P S shape y (sound-linked P S y (reached P S shape acts y r .sound))
+
+  local-phase : {acts : List Act} {y : Image} (p : ℕ) → Run P S (blank P S) acts y → judge P S y (local p) ≡ Accepted → get (apply P S y (local p)) phase ≡ get y phase
+  unfolding judge apply
+  local-phase {acts} {y} p r j = local-head P S p (ltb-true p P (check-true _ _ _ _ j .0)) y (reached P S shape acts y r .sound) 2 (omega arith)
 
   blank-shut : get (blank P S) phase ≡ 0
   unfolding addr
@@ -65,3 +70,4 @@ module _ (P S : ℕ) (shape : Shape P S) where
       record { earlier = acts; since = []; split = refl; unclosed = tt; x = y; before = r; opens = j; run = still }
   in-phase (acted {y = y} (trace p) r j) e = further (trace p) (λ u c. c) j (in-phase r (eqb-true _ _ (traced-is P S shape y p j .0)))
   in-phase (acted closing r j) e = let z = closing-phase r in absurd (omega arith)
+  in-phase (acted (local p) r j) e = further (local p) (λ u c. c) j (in-phase r (sym (local-phase p r j) ∙ e))

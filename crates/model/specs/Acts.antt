@@ -3,19 +3,21 @@ use Prim.Native.Nat.{ℕ, _+_, _*_}
 use mathlib.Core.Bool.{Bool, not, cond}
 use mathlib.Core.List.{List, [], _∷_}
 use lib.Dec.{eqb}
+use lib.ListN.{replicate}
 use Rattle.loops.specs.Loop.{each, both, tally}
 use Rattle.kinds.specs.Names.{wordOf, mostPartitions}
 use Rattle.kinds.specs.declared.Target.{Target}
 use Rattle.kinds.specs.declared.Operation.{Operation}
 use Rattle.kinds.specs.declared.Operation.the-variants.{New, Set, Val, Root}
-use Rattle.model.specs.Image.{Image, Key, root, flag, state, payload, field, phase, count, allowance, anchors, get, put, place, placeOf, partOf, refer, release}
+use Rattle.model.specs.Image.{Image, Key, root, flag, state, payload, inlist, field, phase, count, allowance, anchors, get, put, place, placeOf, partOf, refer, release}
 use Rattle.model.specs.Spread.{pass, spread}
+use Rattle.model.specs.Questions.{Bits, hasBit, addBit, collect, held, heldAt}
 
 -- an act that a history is made of (a formatting begins one)
 pub data Act : Type 0 where
   commit : List Operation → Act
   opening closing : Act
-  trace : ℕ → Act
+  trace local : ℕ → Act
 
 -- states: 0 free, 1 in use, 2 in use and marked
 abbrev pub used : Image → ℕ → Bool
@@ -104,7 +106,7 @@ finish p img = put (put img (flag p) 1) count (get img count + 1)
 unfoldable pub traceOne : ℕ → ℕ → Image → Image
 traceOne S p img = finish p (outside S p (inside S p img))
 
--- CLOSE: a freed slot is six zeros
+-- CLOSE: a freed slot is seven zeros: six are put here, and when the act is done nothing names the slot, so that its count is 0 (free-count)
 unfoldable pub clear : ℕ → Image → ℕ → Image
 clear S img j = each 4 (λ x k. release S x (field j k)) (put (put img (state j) 0) (payload j) 0)
 
@@ -119,9 +121,33 @@ shut img = put (put (put (unclean img) phase 0) count 0) allowance 0
 unfoldable pub closeUp : ℕ → ℕ → Image → Image
 closeUp P S img = shut (each (P * S) (settle S) img)
 
+-- LOCAL: of p, what a root names, and what fields of other partitions name by its count
+unfoldable pub localStart : ℕ → ℕ → ℕ → Image → Bits
+localStart P S p img =
+    collect S (λ s. held img (inlist (p * S + s))) (λ s. p * S + s)
+    (collect anchors (λ r. both (held img (root r)) (own S p (heldAt S img (root r)))) (λ r. heldAt S img (root r)) (replicate (P * S) 0))
+
+-- and what chains inside p lead to from there
+unfoldable pub localBits : ℕ → ℕ → ℕ → Image → Bits
+localBits P S p img =
+    spread hasBit addBit (λ b. refers S (own S p) img) (λ b. target S img) (λ s. p * S + s) S 4 (localStart P S p img)
+
+-- of the places at 0, .., at (m - 1), those that do not stay are freed
+unfoldable pub freeBut : ℕ → ℕ → (ℕ → ℕ) → (ℕ → Bool) → Image → Image
+freeBut m S at stay img = each m (λ x j. cond (stay (at j)) x (clear S x (at j))) img
+
+-- every other object of p is freed: no flag, no mark of an object that stays, no count of traces, no allowance changes
+unfoldable pub localUp : ℕ → ℕ → ℕ → Image → Image
+localUp P S p img = freeBut S S (λ s. p * S + s) (hasBit (localBits P S p img)) img
+
+-- how many it frees
+unfoldable pub localFreed : ℕ → ℕ → ℕ → Image → ℕ
+localFreed P S p img = tally S (λ s. both (used img (p * S + s)) (not (hasBit (localBits P S p img) (p * S + s))))
+
 -- what an accepted act leaves
 unfoldable pub apply : ℕ → ℕ → Image → Act → Image
 apply P S img (commit os) = performAll S img os
 apply P S img opening = openUp P S img
 apply P S img (trace p) = traceOne S p img
 apply P S img closing = closeUp P S img
+apply P S img (local p) = localUp P S p img

@@ -11,18 +11,31 @@ use Rattle.kinds.specs.declared.Name.{Name}
 use Rattle.kinds.specs.declared.Target.the-variants.{Object}
 use Rattle.kinds.specs.declared.Operation.{Operation}
 use Rattle.kinds.specs.declared.Operation.the-variants.{New, Set, Val, Root}
-use Rattle.model.specs.Image.{Image, Key, root, state, payload, field, anchors, get, place, placeOf}
+use Rattle.model.specs.Image.{Image, Key, root, state, payload, field, anchors, get, place, placeOf, partOf}
 use Rattle.model.specs.Spread.{Reach}
-use Rattle.model.specs.Acts.{Act, commit, opening, closing, trace}
+use Rattle.model.specs.Acts.{Act, commit, opening, closing, trace, local}
 
 -- at one moment: κ names the object at j
 pub record Names (S : ℕ) (img : Image) (κ : Key) (j : ℕ) : Type 0 where
   pub some : get img κ ≢ 0
   pub target : placeOf S (get img κ) ≡ j
 
+-- a root names the object at j
+abbrev pub Rooted : ℕ → Image → ℕ → Type 0
+Rooted S img j = (r : ℕ) × (r < anchors) × Names S img (root r) j
+
+-- a field of an object in another partition names the object at j, of n places
+pub record NamedAbroad (n S : ℕ) (img : Image) (j : ℕ) : Type 0 where
+  pub holder : ℕ
+  pub k : ℕ
+  pub place : holder < n
+  pub small : k < 4
+  pub elsewhere : partOf S holder ≢ partOf S j
+  pub names : Names S img (field holder k) j
+
 -- a root leads to the object at a place
 abbrev pub Leads : ℕ → Image → ℕ → Type 0
-Leads S img = Reach (λ j. (r : ℕ) × (r < anchors) × Names S img (root r) j) (λ i j. (k : ℕ) × (k < 4) × Names S img (field i k) j)
+Leads S img = Reach (Rooted S img) (λ i j. (k : ℕ) × (k < 4) × Names S img (field i k) j)
 
 -- from x to y the object at place j stays in use, with its payload and its fields
 pub record Stays (x y : Image) (j : ℕ) : Type 0 where
@@ -34,7 +47,7 @@ pub record Stays (x y : Image) (j : ℕ) : Type 0 where
 pub data Step : Type 0 where
   op : Operation → Step
   opens closes : Step
-  traced : ℕ → Step
+  traced localized : ℕ → Step
 
 unfoldable pub push : List Operation → List Step → List Step
 push [] h = h
@@ -46,6 +59,7 @@ steps (commit os ∷ acts) h = push os (steps acts h)
 steps (opening ∷ acts) h = opens ∷ steps acts h
 steps (trace p ∷ acts) h = traced p ∷ steps acts h
 steps (closing ∷ acts) h = closes ∷ steps acts h
+steps (local p ∷ acts) h = localized p ∷ steps acts h
 
 -- the number of the step that created the object now at place j
 unfoldable pub birth : ℕ → List Step → ℕ → ℕ
@@ -57,6 +71,7 @@ birth S (op (Root r t) ∷ h) j = birth S h j
 birth S (opens ∷ h) j = birth S h j
 birth S (closes ∷ h) j = birth S h j
 birth S (traced p ∷ h) j = birth S h j
+birth S (localized p ∷ h) j = birth S h j
 
 -- h is `base` with steps on top
 pub data Above (base : List Step) : List Step → Type 0 where
@@ -84,7 +99,13 @@ pub data Chain (S : ℕ) (x : Image) (base : List Step) (Taken : Step → List S
 abbrev pub toOpening : List Act → List Step
 toOpening earlier = opens ∷ steps earlier []
 
--- after `earlier` a phase was opened on the heap x, and `acts` came since: a chain leads to the object now at place j
+-- after `earlier` a phase was opened, and `acts` came since: the number of the step that created the object now at place j, or the last that was there
+abbrev pub birthNow : ℕ → List Act → List Act → ℕ → ℕ
+birthNow S earlier acts j = birth S (steps acts (toOpening earlier)) j
+
+-- it was opened on the heap x: a chain leads to the object that step b created at place j, and to the object now at place j
+abbrev pub ChainToBorn : ℕ → List Act → Image → List Act → ℕ → ℕ → Type 0
+ChainToBorn S earlier x acts j b = Chain S x (toOpening earlier) (Since (toOpening earlier) (steps acts (toOpening earlier))) j b
+
 abbrev pub ChainTo : ℕ → List Act → Image → List Act → ℕ → Type 0
-ChainTo S earlier x acts j =
-    Chain S x (toOpening earlier) (Since (toOpening earlier) (steps acts (toOpening earlier))) j (birth S (steps acts (toOpening earlier)) j)
+ChainTo S earlier x acts j = ChainToBorn S earlier x acts j (birthNow S earlier acts j)

@@ -1,7 +1,7 @@
 -- What each accepted act makes of every word of the image, sentence by sentence of the paper. An act's sentences say what it writes (`Writes κ v`: the word
--- at κ becomes v), and `Leaves` says that nothing else changes.
+-- at κ becomes v), and `Leaves` says that nothing else changes but the counts of foreign references, which are right.
 use Prim.Native.Nat.{ℕ, _+_, _*_, _≤_, _<_}
-use mathlib.Core.Bool.{not, cond}
+use mathlib.Core.Bool.{false, not, cond}
 use mathlib.Core.List.{List, [], _∷_}
 use mathlib.Core.Path.{_≡_}
 use mathlib.Core.Logic.{_≢_, _⊎_}
@@ -12,10 +12,11 @@ use Rattle.kinds.specs.declared.Target.{Target}
 use Rattle.kinds.specs.declared.Target.the-variants.{Object}
 use Rattle.kinds.specs.declared.Operation.{Operation}
 use Rattle.kinds.specs.declared.Operation.the-variants.{New, Set, Val, Root}
-use Rattle.model.specs.Image.{Image, Key, head, root, flag, state, payload, field, phase, count, allowance, anchors, get, lengthOf, place, partOf}
+use Rattle.model.specs.Image.{Image, Key, head, root, flag, state, payload, inlist, field, isCount, phase, count, allowance, anchors, get, lengthOf, place, partOf}
 use Rattle.model.specs.Spread.{Reach}
-use Rattle.model.specs.Acts.{Act, commit, opening, closing, trace, used, isOpen, unmarked}
-use Rattle.model.specs.Chains.{Names}
+use Rattle.model.specs.Acts.{Act, commit, opening, closing, trace, local, used, isOpen, unmarked, localFreed}
+use Rattle.model.specs.Chains.{Names, Rooted, Leads}
+use Rattle.model.specs.Sound.{Right}
 
 -- the words of an image of n places
 abbrev pub In : ℕ → Key → Type 0
@@ -24,12 +25,15 @@ In n (root r) = r < anchors
 In n (flag p) = p < mostPartitions
 In n (state j) = j < n
 In n (payload j) = j < n
+In n (inlist j) = j < n
 In n (field j k) = (j < n) × (k < 4)
 
--- y is x, of n places, with these words written: what is written stands there, every other word is as it was, and there are as many words
-pub record Leaves (n : ℕ) (x : Image) (Writes : Key → ℕ → Type 0) (y : Image) : Type 0 where
+-- y is x, of n places, with these words written: what is written stands there, every other word that is no count is as it was, the counts are those of
+-- y's fields, and there are as many words
+pub record Leaves (n S : ℕ) (x : Image) (Writes : Key → ℕ → Type 0) (y : Image) : Type 0 where
   pub written : (κ : Key) (v : ℕ) → In n κ → Writes κ v → get y κ ≡ v
-  pub others : (κ : Key) → In n κ → ((v : ℕ) × Writes κ v) ⊎ (get y κ ≡ get x κ)
+  pub others : (κ : Key) → In n κ → isCount κ ≡ false → ((v : ℕ) × Writes κ v) ⊎ (get y κ ≡ get x κ)
+  pub right : Right n S y
   pub length : lengthOf y ≡ lengthOf x
 
 -- COMMIT: a set or a root stores a reference to the object q
@@ -61,7 +65,7 @@ pub data Performs (S : ℕ) (x : Image) : Operation → Key → ℕ → Type 0 w
   uncleans-stored : {o : Operation} {q : Name} → StoresUnmarked S x o q → Performs S x o (flag (q .partition .0)) 0
 
 abbrev pub Performed : ℕ → ℕ → Image → Operation → Image → Type 0
-Performed P S x o y = Leaves (P * S) x (Performs S x o) y
+Performed P S x o y = Leaves (P * S) S x (Performs S x o) y
 
 -- operations, applied in order
 pub data Committed (P S : ℕ) : Image → List Operation → Image → Type 0 where
@@ -77,12 +81,15 @@ pub data Opens (P S : ℕ) (x y : Image) : Key → ℕ → Type 0 where
   allows : Opens P S x y allowance (P + unmarked (P * S) y)
 
 abbrev pub Opened : ℕ → ℕ → Image → Image → Type 0
-Opened P S x y = Leaves (P * S) x (Opens P S x y) y
+Opened P S x y = Leaves (P * S) S x (Opens P S x y) y
+
+-- a field of the object at i names the object at j, of p
+abbrev pub Inward : ℕ → ℕ → Image → ℕ → ℕ → Type 0
+Inward S p x i j = (k : ℕ) × (k < 4) × Names S x (field i k) j × (partOf S j ≡ p)
 
 -- TRACE p, within p: the least set that holds p's marked objects and everything that p's fields inside p lead to from them
 abbrev pub Within : ℕ → ℕ → Image → ℕ → Type 0
-Within S p x =
-    Reach (λ j. (partOf S j ≡ p) × (get x (state j) ≡ 2)) (λ i j. (k : ℕ) × (k < 4) × Names S x (field i k) j × (partOf S j ≡ p))
+Within S p x = Reach (λ j. (partOf S j ≡ p) × (get x (state j) ≡ 2)) (Inward S p x)
 
 -- an unmarked object of another partition that an object of this set refers to
 pub record Beyond (S p : ℕ) (x : Image) (j : ℕ) : Type 0 where
@@ -103,9 +110,9 @@ pub data Traces (S p : ℕ) (x : Image) : Key → ℕ → Type 0 where
   counts : Traces S p x count (get x count + 1)
 
 abbrev pub Traced : ℕ → ℕ → ℕ → Image → Image → Type 0
-Traced P S p x y = Leaves (P * S) x (Traces S p x) y
+Traced P S p x y = Leaves (P * S) S x (Traces S p x) y
 
--- CLOSE: an unmarked object becomes free, six zeros; a mark becomes state 1; words 2 to 4 and the flags become 0
+-- CLOSE: an unmarked object becomes free, seven zeros (the count by `right`); a mark becomes state 1; words 2 to 4 and the flags become 0
 pub data Closes (x : Image) : Key → ℕ → Type 0 where
   frees : {j : ℕ} → get x (state j) ≡ 1 → Closes x (state j) 0
   frees-payload : {j : ℕ} → get x (state j) ≡ 1 → Closes x (payload j) 0
@@ -119,9 +126,36 @@ unfoldable pub freed : ℕ → Image → Image → ℕ
 freed n x y = tally n (λ j. both (used x j) (not (used y j)))
 
 pub record Closed (P S : ℕ) (x y : Image) : Type 0 where
-  pub words : Leaves (P * S) x (Closes x) y
+  pub words : Leaves (P * S) S x (Closes x) y
   -- the number that close answers
   pub number : unmarked (P * S) x ≡ freed (P * S) x y
+
+-- LOCAL p: what stays of p, the least set that holds the objects of p that a root or a counted foreign reference names, and everything that p's fields
+-- inside p lead to from them
+abbrev pub KeptIn : ℕ → ℕ → Image → ℕ → Type 0
+KeptIn S p x = Reach (λ j. (partOf S j ≡ p) × (Rooted S x j ⊎ (get x (inlist j) ≢ 0))) (Inward S p x)
+
+-- every other object of p becomes free, seven zeros (the count by `right`)
+pub data Localizes (S p : ℕ) (x : Image) : Key → ℕ → Type 0 where
+  frees : {j : ℕ} → partOf S j ≡ p → (KeptIn S p x j → ⊥) → Localizes S p x (state j) 0
+  frees-payload : {j : ℕ} → partOf S j ≡ p → (KeptIn S p x j → ⊥) → Localizes S p x (payload j) 0
+  frees-field : {j k : ℕ} → partOf S j ≡ p → (KeptIn S p x j → ⊥) → Localizes S p x (field j k) 0
+
+pub record Localized (P S p : ℕ) (x y : Image) : Type 0 where
+  pub words : Leaves (P * S) S x (Localizes S p x) y
+  -- the number that local answers
+  pub number : localFreed P S p x ≡ freed (P * S) x y
+
+-- from x to y the object at place j is untouched, but for its count
+pub record Untouched (x y : Image) (j : ℕ) : Type 0 where
+  pub state-stays : get y (state j) ≡ get x (state j)
+  pub value-stays : get y (payload j) ≡ get x (payload j)
+  pub fields-stay : (k : ℕ) → k < 4 → get y (field j k) ≡ get x (field j k)
+
+-- what a customer asks of a local collection of p: it leaves alone what a root leads to, and every other partition
+pub record Spares (P S p : ℕ) (x y : Image) : Type 0 where
+  pub led : (j : ℕ) → Leads S x j → Untouched x y j
+  pub elsewhere : (j : ℕ) → j < P * S → partOf S j ≢ p → Untouched x y j
 
 -- what an accepted act makes of x
 abbrev pub Effect : ℕ → ℕ → Act → Image → Image → Type 0
@@ -129,3 +163,4 @@ Effect P S (commit os) x y = Committed P S x os y
 Effect P S opening x y = Opened P S x y
 Effect P S (trace p) x y = Traced P S p x y
 Effect P S closing x y = Closed P S x y
+Effect P S (local p) x y = Localized P S p x y

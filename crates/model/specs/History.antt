@@ -7,7 +7,7 @@ use lib.Dec.{eqb}
 use Rattle.loops.specs.Loop.{both, every, tally}
 use Rattle.kinds.specs.declared.Verdict.the-variants.{Accepted}
 use Rattle.model.specs.Image.{Image, Key, root, anchors, get, placeOf}
-use Rattle.model.specs.Acts.{Act, commit, opening, closing, trace, used, apply}
+use Rattle.model.specs.Acts.{Act, commit, opening, closing, trace, local, used, apply}
 use Rattle.model.specs.Judge.{judge}
 
 -- y comes from x by acts, the last first, each acceptable where it stands: after the acts before it, on the heap that they leave
@@ -26,6 +26,7 @@ traces (commit os ∷ acts) = traces acts
 traces (opening ∷ acts) = traces acts
 traces (trace p ∷ acts) = traces acts + 1
 traces (closing ∷ acts) = traces acts
+traces (local p ∷ acts) = traces acts
 
 -- a history that closes no phase
 abbrev pub Unclosed : List Act → Type 0
@@ -34,6 +35,7 @@ Unclosed (commit os ∷ acts) = Unclosed acts
 Unclosed (opening ∷ acts) = Unclosed acts
 Unclosed (trace p ∷ acts) = Unclosed acts
 Unclosed (closing ∷ acts) = ⊥
+Unclosed (local p ∷ acts) = Unclosed acts
 
 -- the root or field κ names the object at j
 abbrev pub names : ℕ → Image → Key → ℕ → Bool

@@ -1,17 +1,31 @@
 -- The image: a list of words, each named by a key. Slot s of partition p is the place p·S + s, and keys go by place.
 use Prim.Native.Nat.{ℕ, _+_, _*_, _-_, _/_, _%_, _<_}
+use mathlib.Core.Bool.{Bool, true, false, not, cond}
 use mathlib.Core.List.{List, _∷_}
+use lib.Dec.{eqb}
 use lib.ListN.{getD, set, length, replicate}
+use Rattle.loops.specs.Loop.{both}
 use Rattle.kinds.specs.Names.{radix}
 use Rattle.kinds.specs.declared.Name.{Name}
 
 abbrev pub Image : Type 0
 Image = List ℕ
 
--- a word of the image: of the head, a root, a partition's flag, and of a place its state, its payload and its fields
+-- a word of the image: of the head, a root, a partition's flag, and of a place its state, its payload, its fields and its count (the inlist of source
+-- document 002): the number of fields of objects in other partitions that name it
 pub data Key : Type 0 where
-  head root flag state payload : ℕ → Key
+  head root flag state payload inlist : ℕ → Key
   field : ℕ → ℕ → Key
+
+-- a word is a count of foreign references
+abbrev pub isCount : Key → Bool
+isCount (head h) = false
+isCount (root r) = false
+isCount (flag p) = false
+isCount (state j) = false
+isCount (payload j) = false
+isCount (inlist j) = true
+isCount (field j k) = false
 
 -- the words of the head
 abbrev pub partitions : Key
@@ -34,7 +48,7 @@ abbrev pub front : ℕ
 front = 37
 
 abbrev pub stride : ℕ
-stride = 6
+stride = 7
 
 abbrev pub anchors : ℕ
 anchors = 16
@@ -47,6 +61,7 @@ addr (flag p) = 21 + p
 addr (state j) = front + stride * j
 addr (payload j) = front + stride * j + 1
 addr (field j k) = front + stride * j + 2 + k
+addr (inlist j) = front + stride * j + 6
 
 unfoldable pub get : Image → Key → ℕ
 get img κ = getD img (addr κ) 0
@@ -75,12 +90,40 @@ placeOf S w = (w - 1) / radix * S + (w - 1) % radix
 unfoldable pub partOf : ℕ → ℕ → ℕ
 partOf S j = j / S
 
--- a reference is stored, and a freed object's reference goes: nothing else writes one
+-- the word w, in a field of the object at j, names an object of another partition
+unfoldable pub abroad : ℕ → ℕ → ℕ → Bool
+abroad S j w = both (not (eqb w 0)) (not (eqb (partOf S j) (partOf S (placeOf S w))))
+
+-- the object that w names is counted once less, and once more
+abbrev pub oneLess : ℕ → ℕ → Image → Image
+oneLess S w img = put img (inlist (placeOf S w)) (get img (inlist (placeOf S w)) - 1)
+
+abbrev pub oneMore : ℕ → ℕ → Image → Image
+oneMore S w img = put img (inlist (placeOf S w)) (get img (inlist (placeOf S w)) + 1)
+
+-- a field of the object at j loses the word w, and gains it
+unfoldable pub lose : ℕ → ℕ → ℕ → Image → Image
+lose S j w img = cond (abroad S j w) (oneLess S w img) img
+
+unfoldable pub gain : ℕ → ℕ → ℕ → Image → Image
+gain S j w img = cond (abroad S j w) (oneMore S w img) img
+
+-- the counts where κ takes the word w: only fields count
+unfoldable pub recount : ℕ → Image → Key → ℕ → Image
+recount S img (head h) w = img
+recount S img (root r) w = img
+recount S img (flag p) w = img
+recount S img (state j) w = img
+recount S img (payload j) w = img
+recount S img (inlist j) w = img
+recount S img (field j k) w = gain S j w (lose S j (get img (field j k)) img)
+
+-- a reference is stored, and a freed object's reference goes: nothing else writes one. The counts follow at once.
 unfoldable pub refer : ℕ → Image → Key → ℕ → Image
-refer S img κ w = put img κ w
+refer S img κ w = put (recount S img κ w) κ w
 
 unfoldable pub release : ℕ → Image → Key → Image
-release S img κ = put img κ 0
+release S img κ = put (recount S img κ 0) κ 0
 
 -- what holds a reference in an image of n places: a root, or a field of a place
 pub data Holder (n : ℕ) : Key → Type 0 where

@@ -3,6 +3,7 @@ pub mod Spread
 pub mod Acts
 pub mod Judge
 pub mod Questions
+pub mod Outlist
 pub mod Sound
 pub mod History
 pub mod Chains

@@ -4,9 +4,9 @@ use mathlib.Core.Bool.{Bool, true, not, cond}
 use mathlib.Core.Path.{_≡_}
 use mathlib.Core.Logic.{_≢_}
 use lib.Dec.{eqb, ltb, leb}
-use Rattle.loops.specs.Loop.{both, every}
+use Rattle.loops.specs.Loop.{both, every, tally}
 use Rattle.kinds.specs.Names.{radix, mostPartitions, mostSlots}
-use Rattle.model.specs.Image.{Image, Key, root, flag, state, payload, field, partitions, slots, phase, count, allowance, anchors, get, lengthOf, size, placeOf, Holder}
+use Rattle.model.specs.Image.{Image, Key, root, flag, state, payload, inlist, field, abroad, partitions, slots, phase, count, allowance, anchors, get, lengthOf, size, placeOf, Holder}
 use Rattle.model.specs.Acts.{used, marked, isOpen}
 use Rattle.model.specs.Judge.{inLimits}
 
@@ -18,12 +18,23 @@ inRange P S w = both (ltb ((w - 1) / radix) P) (ltb ((w - 1) % radix) S)
 unfoldable pub refOk : ℕ → ℕ → Image → Key → Bool
 refOk P S x κ = cond (eqb (get x κ) 0) true (both (inRange P S (get x κ)) (used x (placeOf S (get x κ))))
 
--- five of a free slot's six zeros, its state being the sixth
+-- five of a free slot's seven zeros, its state being the sixth; the seventh is its count, since nothing names a free slot (free-count)
 unfoldable pub freeOk : Image → ℕ → Bool
 freeOk x j = both (eqb (get x (payload j)) 0) (every 4 (λ k. eqb (get x (field j k)) 0))
 
 unfoldable pub slotOk : ℕ → ℕ → Image → ℕ → Bool
 slotOk P S x j = both (leb (get x (state j)) 2) (both (every 4 (λ k. refOk P S x (field j k))) (cond (used x j) true (freeOk x j)))
+
+-- the word w, in a field of the object at j, is a foreign reference to the object at i
+unfoldable pub points : ℕ → ℕ → ℕ → ℕ → Bool
+points S j w i = both (abroad S j w) (eqb (placeOf S w) i)
+
+-- the fields of objects in other partitions that name the object at i; field k of place j is number 4·j + k
+unfoldable pub inCount : ℕ → ℕ → Image → ℕ → ℕ
+inCount S n x i = tally (4 * n) (λ f. points S (f / 4) (get x (field (f / 4) (f % 4))) i)
+
+unfoldable pub countOk : ℕ → ℕ → Image → ℕ → Bool
+countOk S n x i = eqb (get x (inlist i)) (inCount S n x i)
 
 unfoldable pub rootOk : ℕ → ℕ → Image → ℕ → Bool
 rootOk P S x r = refOk P S x (root r)
@@ -54,8 +65,9 @@ soundAt P S x =
     (both (eqb (lengthOf x) (size P S))
     (both (leb (get x phase) 1)
     (both (every (P * S) (slotOk P S x))
+    (both (every (P * S) (countOk S (P * S) x))
     (both (every anchors (rootOk P S x))
-    (both (every mostPartitions (flagOk P x)) (cond (isOpen x) (openOk P S x) (shutOk P S x)))))))
+    (both (every mostPartitions (flagOk P x)) (cond (isOpen x) (openOk P S x) (shutOk P S x))))))))
 
 -- the test: P and S are words 0 and 1
 unfoldable pub isSound : Image → Bool
@@ -67,10 +79,14 @@ pub record NamesUsed (P S : ℕ) (x : Image) (κ : Key) : Type 0 where
   pub slot : (get x κ - 1) % radix < S
   pub in-use : get x (state (placeOf S (get x κ))) ≢ 0
 
--- a free slot is six zeros
+-- the rest of a free slot's seven zeros: its state is 0, and so is its count, since nothing names it (free-count)
 pub record Free (x : Image) (j : ℕ) : Type 0 where
   pub value : get x (payload j) ≡ 0
   pub fields : (k : ℕ) → k < 4 → get x (field j k) ≡ 0
+
+-- the counts of n places are right
+pub record Right (n S : ℕ) (x : Image) : Type 0 where
+  pub counts : (i : ℕ) → i < n → get x (inlist i) ≡ inCount S n x i
 
 pub record ShutHead (P S : ℕ) (x : Image) : Type 0 where
   pub counted : get x count ≡ 0
@@ -93,6 +109,7 @@ pub record SoundAt (P S : ℕ) (x : Image) : Type 0 where
   pub states : (j : ℕ) → j < P * S → get x (state j) ≤ 2
   pub free-slots : (j : ℕ) → j < P * S → get x (state j) ≡ 0 → Free x j
   pub references : (κ : Key) → Holder (P * S) κ → get x κ ≢ 0 → NamesUsed P S x κ
+  pub right : Right (P * S) S x
   pub flag-bits : (p : ℕ) → p < mostPartitions → get x (flag p) ≤ 1
   pub flags-beyond : (p : ℕ) → p < mostPartitions → P ≤ p → get x (flag p) ≡ 0
   pub shut : get x phase ≡ 0 → ShutHead P S x

@@ -1,7 +1,7 @@
 -- The two ways of a call: accepted, it performs its act and logs its record; refused, it leaves all as it was, and its number is not 0.
 -- Assumes nothing.
 use Prim.Native.Nat.{ℕ, _+_, _≤_, _<_}
-use mathlib.Core.Path.{_≡_, refl, ap}
+use mathlib.Core.Path.{_≡_, refl, sym, ap, subst}
 use mathlib.Core.Bool.{Bool, true, false}
 use mathlib.Core.List.{List}
 use mathlib.Core.Logic.{_≢_}
@@ -12,19 +12,18 @@ use Rattle.kinds.specs.declared.Refusal.{Refusal}
 use Rattle.kinds.specs.declared.Verdict.{Verdict}
 use Rattle.kinds.specs.declared.Verdict.the-variants.{Accepted, Refused}
 use Rattle.model.specs.Image.{Image, partitions, slots, get, lengthOf, blank}
-use Rattle.model.specs.Acts.{opening, closing, trace}
+use Rattle.model.specs.Acts.{opening, closing, trace, local}
 use Rattle.model.specs.Judge.{check, andThen, judgeFormat}
 use Rattle.model.specs.Sound.{isSound}
 use Rattle.writer.specs.Record.{recordOf, newest, headingOf}
 use Rattle.writer.specs.Write.{splice}
-use Rattle.catalogue.specs.declared.Answer.{Answer}
 use Rattle.catalogue.specs.declared.Answer.the-variants.{Done, Refused as NotDone}
-use Rattle.catalogue.specs.declared.Closing.{Closing}
 use Rattle.catalogue.specs.declared.Closing.the-variants.{Refused as NotClosed}
-use Rattle.catalogue.specs.Call.{Outcome, judgeIn, applyIn, judgeAct, judgeCommit, formatOf, callOf, commitOf, closed, closeOf}
+use Rattle.catalogue.specs.declared.Freeing.the-variants.{Refused as NotFreed}
+use Rattle.catalogue.specs.Call.{Outcome, outcome, perform, judgeIn, applyIn, judgeAct, judgeCommit, formatOf, callOf, commitOf, closed, closeOf, freed, localOf}
 use Rattle.catalogue.proofs.Judged.{act-sound, act-judged, commit-sound, commit-judged}
 use Rattle.model.proofs.Numbers.{Among, accepted, numbered, act-among, format-among}
-use Rattle.promises.specs.Calls.{Call, commit-call, open-call, close-call, trace-call, actOf, Made, answered, closed-up, formatting, calling}
+use Rattle.promises.specs.Calls.{Call, commit-call, open-call, close-call, trace-call, local-call, actOf, Made, answered, closed-up, freed-up, formatting, calling}
 use Rattle.promises.proofs.Listing.{fully, Performed, did, left, performed}
 
 -- a verdict that is not a refusal with the number k
@@ -67,6 +66,7 @@ judgeCall img (commit-call ops n) = judgeCommit img ops n
 judgeCall img open-call = judgeAct img opening
 judgeCall img (trace-call p) = judgeAct img (trace (p .0))
 judgeCall img close-call = judgeAct img closing
+judgeCall img (local-call p) = judgeAct img (local (p .0))
 
 -- where its act's judge does not refuse with k, nor 1 and 6 are k, the call does not
 pub call-beside : (k : ℕ) (img : Image) (c : Call) → 1 ≢ k → 6 ≢ k → Beside k (judgeIn img (actOf c)) → Beside k (judgeCall img c)
@@ -75,6 +75,7 @@ call-beside k img (commit-call ops n) one six h = beside-check k _ 1 0 _ one (be
 call-beside k img open-call one six h = beside-check k _ 1 0 _ one h
 call-beside k img (trace-call p) one six h = beside-check k _ 1 0 _ one h
 call-beside k img close-call one six h = beside-check k _ 1 0 _ one h
+call-beside k img (local-call p) one six h = beside-check k _ 1 0 _ one h
 
 call-numbers : (img : Image) (c : Call) → Beside 0 (judgeCall img c)
 call-numbers img c = call-beside 0 img c (λ z. omega arith) (λ z. omega arith) (beside-among 0 6 16 _ (omega arith) (act-among (get img partitions) (get img slots) img (actOf c)))
@@ -85,6 +86,7 @@ call-judged img (commit-call ops n) e = (commit-sound img ops n e, commit-judged
 call-judged img open-call e = (act-sound img opening e, act-judged img opening e)
 call-judged img (trace-call p) e = (act-sound img (trace (p .0)) e, act-judged img (trace (p .0)) e)
 call-judged img close-call e = (act-sound img closing e, act-judged img closing e)
+call-judged img (local-call p) e = (act-sound img (local (p .0)) e, act-judged img (local (p .0)) e)
 
 -- the two ways
 abbrev made : ℕ → ℕ → Image → List ℕ → Made
@@ -94,28 +96,30 @@ pub data Ways (u : Verdict) (bytes : List ℕ) (next img : Image) (log : List �
   done : u ≡ Accepted → at + length bytes ≤ length log → Ways u bytes next img log at (made 0 (length bytes) next (splice log at bytes))
   not-done : (r : Refusal) → fully u bytes log at ≡ Refused r → Ways u bytes next img log at (made (r .number) 0 img log)
 
-ways-answer : {u : Verdict} {bytes : List ℕ} {next img : Image} {log : List ℕ} {at : ℕ} {o : Outcome Answer}
-    → Performed Done NotDone u bytes next img log at o → Ways u bytes next img log at (answered o)
-ways-answer (did a l) = done a l
-ways-answer (left r e) = not-done r e
-
-ways-closing : {u : Verdict} {bytes : List ℕ} {next img : Image} {log : List ℕ} {at : ℕ} {o : Outcome Closing}
-    → Performed (closed img) NotClosed u bytes next img log at o → Ways u bytes next img log at (closed-up o)
-ways-closing (did a l) = done a l
-ways-closing (left r e) = not-done r e
+-- whatever the form of its answer
+ways : {A : Type 0} (form : Outcome A → Made) (does : ℕ → A) (refuses : Refusal → A) (u : Verdict) (bytes : List ℕ) (next img : Image) (log : List ℕ) (at : ℕ)
+    → ((n : ℕ) (y : Image) (g : List ℕ) → form (outcome (does n) y g) ≡ made 0 n y g)
+    → ((r : Refusal) (y : Image) (g : List ℕ) → form (outcome (refuses r) y g) ≡ made (r .number) 0 y g)
+    → Ways u bytes next img log at (form (perform does refuses u bytes next img log at))
+ways {A} form does refuses u bytes next img log at d n = go (performed does refuses u bytes next img log at)
+  where
+    go : {o : Outcome A} → Performed does refuses u bytes next img log at o → Ways u bytes next img log at (form o)
+    go (did a l) = subst (Ways u bytes next img log at) (sym (d _ _ _)) (done a l)
+    go (left r e) = subst (Ways u bytes next img log at) (sym (n r img log)) (not-done r e)
 
 pub format-ways : (img : Image) (P S : ℕ) (log : List ℕ) (at : ℕ)
     → Ways (judgeFormat P S (lengthOf img)) (headingOf (newest P S)) (blank P S) img log at (formatting img P S log at)
 unfolding formatOf
-format-ways img P S log at = ways-answer (performed Done NotDone _ _ _ img log at)
+format-ways img P S log at = ways answered Done NotDone _ _ _ img log at (λ n y g. refl) (λ r y g. refl)
 
 pub call-ways : (img : Image) (c : Call) (log : List ℕ) (at : ℕ)
     → Ways (judgeCall img c) (recordOf (actOf c)) (applyIn img (actOf c)) img log at (calling img c log at)
-unfolding commitOf callOf closeOf
-call-ways img (commit-call ops n) log at = ways-answer (performed Done NotDone _ _ _ img log at)
-call-ways img open-call log at = ways-answer (performed Done NotDone _ _ _ img log at)
-call-ways img (trace-call p) log at = ways-answer (performed Done NotDone _ _ _ img log at)
-call-ways img close-call log at = ways-closing (performed (closed img) NotClosed _ _ _ img log at)
+unfolding commitOf callOf closeOf localOf
+call-ways img (commit-call ops n) log at = ways answered Done NotDone _ _ _ img log at (λ n y g. refl) (λ r y g. refl)
+call-ways img open-call log at = ways answered Done NotDone _ _ _ img log at (λ n y g. refl) (λ r y g. refl)
+call-ways img (trace-call p) log at = ways answered Done NotDone _ _ _ img log at (λ n y g. refl) (λ r y g. refl)
+call-ways img close-call log at = ways closed-up (closed img) NotClosed _ _ _ img log at (λ n y g. refl) (λ r y g. refl)
+call-ways img (local-call p) log at = ways freed-up (freed img (p .0)) NotFreed _ _ _ img log at (λ n y g. refl) (λ r y g. refl)
 
 -- 17 is not 0 either
 pub fully-beside : (k : ℕ) (u : Verdict) (bytes log : List ℕ) (at : ℕ) → 17 ≢ k → Beside k u → Beside k (fully u bytes log at)

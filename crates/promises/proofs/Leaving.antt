@@ -1,14 +1,14 @@
 -- Demand 1, what refusals leave (of a call: `refused-leaves` in Calling): a refused recovery leaves zeros and keeps nothing, and every call but format and
--- recover refuses zeros with 1; with no root in use no phase opens or closes.
+-- recover refuses zeros with 1; with no root in use no phase opens or closes and no partition is collected.
 -- Assumes nothing.
 use Prim.Native.Nat.{ℕ, _+_}
 use mathlib.Core.Path.{_≡_, refl, sym, ap, _∙_}
 use mathlib.Core.Bool.{Bool, true, false, cond}
-use mathlib.Core.List.{List, []}
+use mathlib.Core.List.{List, [], _∷_}
 use mathlib.Core.Logic.{_≢_, ⊎-elim}
 use native.Mathlib.Omega.{arith}
 use lib.ListN.{replicate}
-use Rattle.kinds.specs.Answers.{refuse, blankRecord}
+use Rattle.kinds.specs.Answers.{refuse, blankRecord, noNames}
 use Rattle.kinds.specs.declared.Name.{Name}
 use Rattle.kinds.specs.declared.Partition.{Partition}
 use Rattle.kinds.specs.declared.Operation.{Operation}
@@ -20,12 +20,12 @@ use Rattle.model.specs.Judge.{check}
 use Rattle.model.specs.Sound.{isSound}
 use Rattle.model.proofs.SoundnessActs.{zeros-unsound}
 use Rattle.journal.specs.Recover.{Stand, early, going, stopped, reader, feedAll, refusal, recovery, tailOk, close, answer, recoverOf}
-use Rattle.catalogue.specs.Answers.{Said, refusedWith, said, totals, saidClosing, saidReading, saidAsked}
-use Rattle.catalogue.specs.Call.{perform, judgeAct, judgeCommit, judgeObject, callOf, commitOf, openOf, traceOf, closeOf, readingOf, askedOf}
-use Rattle.promises.specs.Rows.{Found, telled, NoRoot}
-use Rattle.promises.specs.Calls.{open-call, close-call, calling}
+use Rattle.catalogue.specs.Answers.{Said, refusedWith, said, totals, saidClosing, yield, saidFreeing, saidListing, saidReading, saidAsked}
+use Rattle.catalogue.specs.Call.{perform, judgeAct, judgeCommit, judgeForeign, judgeObject, callOf, commitOf, openOf, traceOf, closeOf, localOf, listingOf, readingOf, askedOf}
+use Rattle.promises.specs.Rows.{Row, given, Found, telled, First, Unsound, NoRoot}
+use Rattle.promises.specs.Calls.{Call, open-call, close-call, local-call, calling}
 use Rattle.promises.proofs.Calling.{Refusing, refused-leaves}
-use Rattle.promises.proofs.Refusals.{open-first, close-first}
+use Rattle.promises.proofs.Refusals.{open-first, close-first, local-first}
 
 -- A REFUSED RECOVERY LEAVES ZEROS and keeps nothing
 pub refused-recovery : (log : List ℕ) (len : ℕ) → (recoverOf log len) .verdict ≢ Accepted → ((recoverOf log len) .image ≡ replicate len 0) × ((recoverOf log len) .kept ≡ 0)
@@ -51,17 +51,21 @@ pub record Refuses-1 (img : Image) : Type 0 where
   pub open-up : (log : List ℕ) (at : ℕ) → said ((openOf img log at) .answer) ≡ refusedWith 0 unsound
   pub trace : (p : Partition) (log : List ℕ) (at : ℕ) → said ((traceOf img p log at) .answer) ≡ refusedWith 0 unsound
   pub close : (log : List ℕ) (at : ℕ) → saidClosing ((closeOf img log at) .answer) ≡ refusedWith (totals 0 0 0) unsound
+  pub local : (p : Partition) (log : List ℕ) (at : ℕ) → saidFreeing ((localOf img p log at) .answer) ≡ refusedWith (yield 0 0) unsound
+  pub outlist : (p : Partition) → saidListing (listingOf img p) ≡ refusedWith noNames unsound
   pub read : (n : Name) → saidReading (readingOf img n) ≡ refusedWith blankRecord unsound
   pub ask : (n : Name) → saidAsked (askedOf img n) ≡ refusedWith false unsound
 
 unsound-refused : (img : Image) → isSound img ≡ false → Refuses-1 img
-unfolding commitOf callOf closeOf readingOf askedOf judgeCommit judgeAct judgeObject check perform
+unfolding commitOf callOf closeOf localOf listingOf readingOf askedOf judgeCommit judgeAct judgeForeign judgeObject check perform
 unsound-refused img e =
     record {
       commit = λ ops n log at. rw e;
       open-up = λ log at. rw e;
       trace = λ p log at. rw e;
       close = λ log at. rw e;
+      local = λ p log at. rw e;
+      outlist = λ p. rw e;
       read = λ n. rw e;
       ask = λ n. rw e;
     }
@@ -70,29 +74,32 @@ unsound-refused img e =
 pub zeros-refused : (n : ℕ) → Refuses-1 (replicate n 0)
 zeros-refused n = unsound-refused (replicate n 0) (zeros-unsound n)
 
--- WITH NO ROOT IN USE no phase opens or closes
+-- WITH NO ROOT IN USE no phase opens or closes and no partition is collected
 numbered : {A : Type 0} (s : Said A) (z v : A) (u : Verdict) (n e : ℕ) → n ≢ 0 → u ≡ refuse n e → s ≡ telled z v u → s .number ≢ 0
 numbered s z v u n e ne q t m = ne (sym (ap (λ (r : Said _). r .number) (t ∙ ap (telled z v) q)) ∙ m)
 
 module _ (img : Image) (log : List ℕ) (at : ℕ) (none : NoRoot img) where
-  open-refused : (calling img open-call log at) .number ≢ 0
+  -- 1, another number, 12
+  twelfth : {A : Type 0} (z v : A) (n : ℕ) (C : Type 0) (rows : List Row) (s : Said A) → n ≢ 0
+      → First z v (given 1 0 (Unsound img) ∷ given n 0 C ∷ given 12 0 (NoRoot img) ∷ rows) s → s .number ≢ 0
   unfolding Found
-  open-refused =
-      let f = open-first img log at in
-      ⊎-elim (λ x. numbered _ _ _ _ 1 0 (λ z. omega arith) (x .1) (f .2))
-      (λ x. ⊎-elim (λ y. numbered _ _ _ _ 11 0 (λ z. omega arith) (y .1) (f .2))
-      (λ y. ⊎-elim (λ w. numbered _ _ _ _ 12 0 (λ z. omega arith) (w .1) (f .2)) (λ w. absurd (w .0 none)) (y .1)) (x .1)) (f .1)
+  twelfth z v n C rows s ne f =
+      ⊎-elim (λ x. numbered s z v (f .0) 1 0 (λ z. omega arith) (x .1) (f .2))
+      (λ x. ⊎-elim (λ y. numbered s z v (f .0) n 0 ne (y .1) (f .2))
+      (λ y. ⊎-elim (λ w. numbered s z v (f .0) 12 0 (λ z. omega arith) (w .1) (f .2)) (λ w. absurd (w .0 none)) (y .1)) (x .1)) (f .1)
 
-  pub rootless-open : ((calling img open-call log at) .number ≢ 0) × Refusing img log (calling img open-call log at)
-  rootless-open = (open-refused, refused-leaves img open-call log at open-refused)
+  -- a call is refused, and leaves all as it was
+  abbrev pub Stopped : Call → Type 0
+  Stopped c = ((calling img c log at) .number ≢ 0) × Refusing img log (calling img c log at)
 
-  close-refused : (calling img close-call log at) .number ≢ 0
-  unfolding Found
-  close-refused =
-      let f = close-first img log at in
-      ⊎-elim (λ x. numbered _ _ _ _ 1 0 (λ z. omega arith) (x .1) (f .2))
-      (λ x. ⊎-elim (λ y. numbered _ _ _ _ 10 0 (λ z. omega arith) (y .1) (f .2))
-      (λ y. ⊎-elim (λ w. numbered _ _ _ _ 12 0 (λ z. omega arith) (w .1) (f .2)) (λ w. absurd (w .0 none)) (y .1)) (x .1)) (f .1)
+  stopped-by : (c : Call) → (calling img c log at) .number ≢ 0 → Stopped c
+  stopped-by c ne = (ne, refused-leaves img c log at ne)
 
-  pub rootless-close : ((calling img close-call log at) .number ≢ 0) × Refusing img log (calling img close-call log at)
-  rootless-close = (close-refused, refused-leaves img close-call log at close-refused)
+  pub rootless-open : Stopped open-call
+  rootless-open = stopped-by open-call (twelfth _ _ 11 _ _ _ (λ z. omega arith) (open-first img log at))
+
+  pub rootless-close : Stopped close-call
+  rootless-close = stopped-by close-call (twelfth _ _ 10 _ _ _ (λ z. omega arith) (close-first img log at))
+
+  pub rootless-local : (p : Partition) → Stopped (local-call p)
+  rootless-local p = stopped-by (local-call p) (twelfth _ _ 7 _ _ _ (λ z. omega arith) (local-first img p log at))

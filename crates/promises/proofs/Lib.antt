@@ -11,3 +11,5 @@ pub mod Phases
 pub mod Table
 pub mod Once
 pub mod Effects
+pub mod Outlists
+pub mod Counts

@@ -1,6 +1,7 @@
 -- Demand 3 over calls: on every heap in a phase that calls reached, with recoveries at any moment, at most P + W traces are accepted in the phase; any partition
 -- that is not clean can be traced, and the phase can be closed when all are clean and a root is in use, given log room; tracing the lowest that is not clean,
--- again and again, comes to that within P + W traces; and the close keeps every object that a root leads to and frees every object that no chain leads to.
+-- again and again, comes to that within P + W traces; and the close keeps every object that a root leads to and frees every object that no chain leads to, unless a
+-- local collection has.
 -- Assumes nothing.
 use Prim.Native.Nat.{ℕ, suc, _*_, _<_}
 use mathlib.Core.Path.{_≡_, refl, sym, ap, _∙_, subst}
@@ -179,5 +180,6 @@ demand-3-calls {h = h} {y = y} world e =
       never = call-never (h .P) (h .S) y k (d .never);
       keeps = λ log at z. let c = call-leaves (h .P) (h .S) y close-call log at k z in rw (c .1) (d .keeps (c .0));
       frees = λ log at z. let c = call-leaves (h .P) (h .S) y close-call log at k z in rw (c .1) (d .frees (c .0));
+      gone = λ log at z. let c = call-leaves (h .P) (h .S) y close-call log at k z in rw (c .1) (d .gone (c .0));
       sound-after = λ log at z. let c = call-leaves (h .P) (h .S) y close-call log at k z in rw (c .1) (d .sound-after (c .0));
     }

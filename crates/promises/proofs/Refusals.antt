@@ -13,27 +13,30 @@ use lib.Seq.{length-take-le}
 use borrow.Author.Tests.{eqb-true, eqb-false, leb-true, leb-false}
 use Rattle.loops.specs.Loop.{both}
 use Rattle.kinds.specs.Names.{mostOperations, roots}
-use Rattle.kinds.specs.Answers.{blankRecord}
+use Rattle.kinds.specs.Answers.{blankRecord, noNames}
 use Rattle.kinds.specs.declared.Name.{Name}
 use Rattle.kinds.specs.declared.Partition.{Partition}
 use Rattle.kinds.specs.declared.Operation.{Operation}
 use Rattle.kinds.specs.declared.Operation.the-variants.{New, Set, Val, Root}
 use Rattle.kinds.specs.declared.Record.{Record}
+use Rattle.kinds.specs.declared.Outlist.{Outlist}
 use Rattle.kinds.specs.declared.Refusal.{Refusal}
 use Rattle.kinds.specs.declared.Verdict.{Verdict}
 use Rattle.kinds.specs.declared.Verdict.the-variants.{Accepted, Refused}
 use Rattle.model.specs.Image.{Image, partitions, slots, count, allowance, get, lengthOf, place}
-use Rattle.model.specs.Acts.{Act, commit, opening, closing, trace, perform, unmarked}
-use Rattle.model.specs.Judge.{check, judgeFormat, judgeOp, judgeOps, lowest, judge, judgeName}
+use Rattle.model.specs.Acts.{Act, commit, opening, closing, trace, local, perform, unmarked, localFreed}
+use Rattle.model.specs.Judge.{check, judgeFormat, judgeOp, judgeOps, lowest, judge, judgeOutlist, judgeName}
 use Rattle.model.specs.Questions.{readOf, ask}
+use Rattle.model.specs.Outlist.{outlist}
 use Rattle.model.specs.Sound.{isSound}
 use Rattle.writer.specs.Record.{recordOf, newest, headingOf}
 use Rattle.journal.proofs.Placing.{Counted, judge-commit}
 use Rattle.catalogue.specs.declared.Answer.the-variants.{Done, Refused as NotDone}
 use Rattle.catalogue.specs.declared.Closing.the-variants.{Refused as NotClosed}
-use Rattle.catalogue.specs.Answers.{Said, accepted, refusedWith, said, Totals, totals, saidClosing, saidReading, saidAsked}
-use Rattle.catalogue.specs.Call.{perform as perform-call, judgeAct, judgeCommit, judgeObject, formatOf, callOf, commitOf, openOf, traceOf, closed, closeOf, reading, readingOf, asked, askedOf}
-use Rattle.promises.specs.Rows.{Row, given, Found, telled, First, Unsound, WrongSize, WrongCount, NoRoom, Lowest, formatRows, operationRows, operationsRows, actRows, callRows, commitRows, objectRows}
+use Rattle.catalogue.specs.declared.Freeing.the-variants.{Refused as NotFreed}
+use Rattle.catalogue.specs.Answers.{Said, accepted, refusedWith, said, Totals, totals, saidClosing, Yield, yield, saidFreeing, saidReading, saidListing, saidAsked}
+use Rattle.catalogue.specs.Call.{perform as perform-call, judgeAct, judgeCommit, judgeForeign, judgeObject, formatOf, callOf, commitOf, openOf, traceOf, closed, closeOf, freed, localOf, listing, listingOf, reading, readingOf, asked, askedOf}
+use Rattle.promises.specs.Rows.{Row, given, Found, telled, First, Unsound, WrongSize, WrongCount, NoRoom, Lowest, formatRows, operationRows, operationsRows, actRows, callRows, commitRows, outlistRows, objectRows}
 use Rattle.promises.proofs.Conditions.{test-lt, test-le, test-ne, test-both, test-as, test-sound, test-size, test-name, test-target, test-free, test-used, test-target-used, test-open, test-shut, test-rooted, test-unclean, found-lowest, none-lowest, one-lowest, test-led}
 use Rattle.promises.proofs.Listing.{Tests, Settled, settled-then, found-none, found-check, found-tell, found-then, exactly, fully, said-perform}
 
@@ -85,12 +88,14 @@ found-act img closing c =
     (found-check _ 12 0 _ _ _ (test-rooted img)
     (found-tell _ 14 (lowest (get img partitions) img) _ (Lowest img) _ (λ e. found-lowest img (eqb-false _ _ e)) (λ e. none-lowest img (eqb-true _ _ e))
     (found-check _ 16 0 _ _ _ (test-led img) found-none)))
+found-act img (local p) c = found-check _ 7 0 _ _ _ (test-lt p (get img partitions)) (found-check _ 12 0 _ _ _ (test-rooted img) found-none)
 
 pub settled-act : (img : Image) (a : Act) → Settled (actRows img a)
 settled-act img (commit os) = settled-operations (get img partitions) (get img slots) img 1 os
 settled-act img opening = tt
 settled-act img (trace p) = tt
 settled-act img closing = (one-lowest img, tt)
+settled-act img (local p) = tt
 
 -- a logged call: its own list, then 17
 logged-first : {A B : Type 0} (say : B → Said A) (z v : A) (done : ℕ → B) (refused : Refusal → B) (u : Verdict) (bytes : List ℕ) (next img : Image) (log : List ℕ) (at : ℕ) (rows : List Row)
@@ -183,6 +188,36 @@ pub close-exactly : (img : Image) (log : List ℕ) (at : ℕ) (s : Said Totals)
     → First (totals 0 0 0) (totals (length (recordOf closing)) (get img count) (unmarked (get img partitions * get img slots) img)) (callRows img closing log at) s
     → s ≡ saidClosing ((closeOf img log at) .answer)
 close-exactly img log at s f = exactly (totals 0 0 0) _ (callRows img closing log at) (settled-call img closing log at) s _ f (close-first img log at)
+
+-- LOCAL, which answers the number freed
+pub local-first : (img : Image) (p : Partition) (log : List ℕ) (at : ℕ)
+    → First (yield 0 0) (yield (length (recordOf (local (p .0)))) (localFreed (get img partitions) (get img slots) (p .0) img)) (callRows img (local (p .0)) log at)
+    (saidFreeing ((localOf img p log at) .answer))
+unfolding localOf
+local-first img p log at =
+    logged-first saidFreeing (yield 0 0) _ (freed img (p .0)) NotFreed _ (recordOf (local (p .0))) _ img log at _ refl (λ r. refl) (found-call img (local (p .0)) tt)
+
+pub local-exactly : (img : Image) (p : Partition) (log : List ℕ) (at : ℕ) (s : Said Yield)
+    → First (yield 0 0) (yield (length (recordOf (local (p .0)))) (localFreed (get img partitions) (get img slots) (p .0) img)) (callRows img (local (p .0)) log at) s
+    → s ≡ saidFreeing ((localOf img p log at) .answer)
+local-exactly img p log at s f = exactly (yield 0 0) _ (callRows img (local (p .0)) log at) (settled-call img (local (p .0)) log at) s _ f (local-first img p log at)
+
+-- OUTLIST
+found-outlist : (img : Image) (p : Partition) → Found (outlistRows img (p .0)) (judgeForeign img p)
+unfolding judgeForeign judgeOutlist
+found-outlist img p = found-check _ 1 0 _ _ _ (test-sound img) (found-check _ 7 0 _ _ _ (test-lt (p .0) (get img partitions)) found-none)
+
+pub outlist-first : (img : Image) (p : Partition) → First noNames (outlist (get img partitions) (get img slots) (p .0) img) (outlistRows img (p .0)) (saidListing (listingOf img p))
+unfolding listingOf
+outlist-first img p = (judgeForeign img p, found-outlist img p, by (judgeForeign img p) (outlist (get img partitions) (get img slots) (p .0) img))
+  where
+    by : (u : Verdict) (o : Outlist) → saidListing (listing u o) ≡ telled noNames o u
+    by Accepted o = refl
+    by (Refused x) o = refl
+
+pub outlist-exactly : (img : Image) (p : Partition) (s : Said Outlist)
+    → First noNames (outlist (get img partitions) (get img slots) (p .0) img) (outlistRows img (p .0)) s → s ≡ saidListing (listingOf img p)
+outlist-exactly img p s f = exactly noNames (outlist (get img partitions) (get img slots) (p .0) img) (outlistRows img (p .0)) tt s _ f (outlist-first img p)
 
 -- READ and ASK
 found-object : (img : Image) (n : Name) → Found (objectRows img n) (judgeObject img n)

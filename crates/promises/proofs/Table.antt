@@ -1,6 +1,6 @@
 -- The starred numbers, in a single table covered by one proof: it computes. Two partitions of four slots.
 -- Assumes nothing.
-use Prim.Native.Nat.{ℕ, _+_, _-_, _≤_}
+use Prim.Native.Nat.{ℕ, _+_, _-_, _≤_, _<_}
 use native.Mathlib.Omega.{arith}
 use mathlib.Core.Path.{_≡_, refl, sym, ap, _∙_}
 use mathlib.Core.Bool.{Bool, true, false, true≢false}
@@ -21,18 +21,20 @@ use Rattle.lines.specs.Machine.{within, scan}
 use Rattle.lines.specs.Line.{lineOf}
 use Rattle.lines.specs.Decimal.{digits, decimal}
 use Rattle.lines.specs.Print.{field, letters, text, printShape, print}
-use Rattle.model.specs.Image.{Image, state, addr, get, put, lengthOf, size, blank, place, placeOf, partOf, refer, release}
+use Rattle.model.specs.Image.{Image, state, addr, get, put, lengthOf, size, blank, place, placeOf, partOf, abroad, lose, gain, recount, refer, release}
 use Rattle.model.specs.Spread.{follow, pass, spread}
-use Rattle.model.specs.Acts.{mark, markWord, store, born, perform, performAll, unmarked, notClean, unclean, markRoots, allow, openUp, inside, outside, finish, traceOne, clear, settle, shut, closeUp, apply}
-use Rattle.model.specs.Judge.{check, andThen, inLimits, judgeFormat, judgeOp, judgeOps, rooted, led, lowest, judge}
-use Rattle.model.specs.Sound.{inRange, refOk, freeOk, slotOk, rootOk, flagOk, flagDown, unmarkedAt, openOk, shutOk, soundAt, isSound}
-use Rattle.writer.specs.Record.{recordOf, headingOf}
+use Rattle.model.specs.Acts.{local, mark, markWord, store, born, perform, performAll, unmarked, notClean, unclean, markRoots, allow, openUp, inside, outside, finish, traceOne, clear, settle, shut, closeUp, localStart, localBits, freeBut, localUp, localFreed, apply}
+use Rattle.model.specs.Judge.{check, andThen, inLimits, judgeFormat, judgeOp, judgeOps, rooted, led, lowest, judge, judgeOutlist}
+use Rattle.model.specs.Questions.{hasBit, addBit, collect}
+use Rattle.model.specs.Outlist.{goesOut, goesTo, outBits, nameAt, listNames, outlist}
+use Rattle.model.specs.Sound.{inRange, refOk, freeOk, slotOk, points, inCount, countOk, rootOk, flagOk, flagDown, unmarkedAt, openOk, shutOk, soundAt, isSound}
+use Rattle.writer.specs.Record.{rule, opLines, recordOf, headingOf}
 use Rattle.writer.specs.Write.{splice}
 use Rattle.journal.specs.Recover.{act, headed, feed, feedAll, tailOk, Recovered, refusal, recovery, answer, recoverOf}
 use Rattle.catalogue.specs.Call as call
-use Rattle.catalogue.specs.Call.{judgeAct, judgeCommit, formatOf, callOf, commitOf, closeOf}
+use Rattle.catalogue.specs.Call.{judgeAct, judgeCommit, judgeForeign, formatOf, callOf, commitOf, closeOf, localOf, listingOf}
 use Rattle.promises.specs.Calls.{Call, open-call, close-call}
-use Rattle.promises.specs.Paper.{paperLog, threeObjects, done, opened, closed, refused, session, committing, tracing, case, from-to, Agree}
+use Rattle.promises.specs.Paper.{paperLog, threeObjects, done, opened, freed, closed, refused, session, committing, tracing, localizing, case, from-to, Agree}
 
 -- the test that a recovery is accepted, keeps n bytes and leaves y
 sameWords : List ℕ → List ℕ → Bool
@@ -72,15 +74,16 @@ gives-it n y r e =
     let s = same-words (r .image) y (b .1) in
     λ i. record { verdict = v i; kept = k i; image = s i }
 
--- every cut from 11 to 88 bytes, computed
-cuts : every 78 (λ i. gives 11 (blank 2 4) (recoverOf (take (11 + i) paperLog) 85)) ≡ true
-unfolding sameWords isAccepted gives headingRows otherRows allRows beginnings prefixesOf code isIn known following within scan lineOf addr get put lengthOf size blank placeOf partOf wordOf refer release each again tally every first follow pass spread mark markWord store born perform performAll unmarked notClean unclean markRoots allow openUp inside outside finish traceOne clear settle shut closeUp apply check andThen inLimits judgeFormat judgeOp judgeOps rooted led lowest judge act headed feed feedAll tailOk answer recoverOf
+-- every cut from 11 to 88 bytes, under a heading of either edition, computed
+cuts : every 2 (λ e. every 78 (λ i. gives 11 (blank 2 4) (recoverOf (take (11 + i) (paperLog (e + 1))) 93))) ≡ true
+unfolding sameWords isAccepted gives headingRows otherRows allRows beginnings prefixesOf code isIn known following within scan lineOf addr get put lengthOf size blank placeOf partOf wordOf abroad lose gain recount refer release each again tally every first follow pass spread mark markWord store born perform performAll unmarked notClean unclean markRoots allow openUp inside outside finish traceOne clear settle shut closeUp apply check andThen inLimits judgeFormat judgeOp judgeOps rooted led lowest judge act headed feed feedAll tailOk answer recoverOf
 cuts = refl
 
-cut-at : (k : ℕ) → 11 ≤ k → k ≤ 88 → recoverOf (take k paperLog) 85 ≡ recovery 11 (blank 2 4)
-cut-at k lo hi =
-    let e : 11 + (k - 11) ≡ k = omega arith in
-    gives-it 11 (blank 2 4) _ (rw e at (every-true 78 (λ i. gives 11 (blank 2 4) (recoverOf (take (11 + i) paperLog) 85)) cuts (k - 11) (omega arith)))
+cut-at : (e : ℕ) → e < 2 → (k : ℕ) → 11 ≤ k → k ≤ 88 → recoverOf (take k (paperLog (e + 1))) 93 ≡ recovery 11 (blank 2 4)
+cut-at e l k lo hi =
+    let c = every-true 2 (λ e. every 78 (λ i. gives 11 (blank 2 4) (recoverOf (take (11 + i) (paperLog (e + 1))) 93))) cuts e l in
+    let q : 11 + (k - 11) ≡ k = omega arith in
+    gives-it 11 (blank 2 4) _ (rw q at (every-true 78 (λ i. gives 11 (blank 2 4) (recoverOf (take (11 + i) (paperLog (e + 1))) 93)) c (k - 11) (omega arith)))
 
 -- a phase of four traces
 abbrev four-traces : List Call
@@ -94,14 +97,24 @@ late = committing (new 0 0 1 ∷ new 1 0 2 ∷ root-to 0 0 0 ∷ []) ∷ open-ca
 abbrev two-roots : Call
 two-roots = committing (new 0 0 1 ∷ root-to 0 0 0 ∷ root-to 1 0 0 ∷ [])
 
+-- a root on (0,0); in its partition a cycle of (0,1) and (0,2), and (0,3), which only (1,0) names, itself unreferenced
+abbrev garbage : Call
+garbage =
+    committing
+    (new 0 0 1 ∷ new 0 1 2 ∷ new 0 2 3 ∷ new 0 3 4 ∷ new 1 0 5 ∷ root-to 0 0 0 ∷ set-to 0 1 0 0 2 ∷ set-to 0 2 0 0 1 ∷ set-to 1 0 0 0 3 ∷ [])
+
+-- the log of a formatting, and a later heading of edition e
+abbrev headings : ℕ → List ℕ
+headings e = headingOf (rule 2 2 4) ++ headingOf (rule e 2 4)
+
 -- THE STARRED NUMBERS. The first reply of a session is its formatting's.
 pub table :
     Agree
-    -- P = 2, S = 4: 85 words; object (1,0) begins at 61, its name is 65
-    (case (size 2 4) 85 ∷ case (lengthOf (session [] .image)) 85 ∷
-    case (addr (state (place 4 (named 1 0)))) 61 ∷ case (wordOf (Object (named 1 0))) 65 ∷
+    -- P = 2, S = 4: 93 words; object (1,0) begins at 65, its name is 65
+    (case (size 2 4) 93 ∷ case (lengthOf (session [] .image)) 93 ∷
+    case (addr (state (place 4 (named 1 0)))) 65 ∷ case (wordOf (Object (named 1 0))) 65 ∷
     -- the paper's log, which these calls write, the bytes after it left as they were: allowance 4, count 4, 0 freed
-    case (session (committing three ∷ four-traces) .log) (paperLog ++ replicate 68 255) ∷
+    case (session (committing three ∷ four-traces) .log) (paperLog 2 ++ replicate 68 255) ∷
     case (session (committing three ∷ four-traces) .replies) (done ∷ done ∷ opened 4 ∷ done ∷ done ∷ done ∷ done ∷ closed 4 0 ∷ []) ∷
     -- with an unreferenced (1,1): allowance 5, 1 freed
     case (session (committing (three ++ (new 1 1 40 ∷ [])) ∷ four-traces) .replies)
@@ -121,14 +134,32 @@ pub table :
     case (session (open-call ∷ []) .replies) (done ∷ refused 12 0 ∷ []) ∷
     -- trace twice running: 13
     case (session (committing three ∷ open-call ∷ tracing 0 ∷ tracing 0 ∷ []) .replies) (done ∷ done ∷ opened 4 ∷ done ∷ refused 13 0 ∷ []) ∷
-    -- the paper's log cut at 10 bytes: 3 and line 1, zeros
-    case (recoverOf (take 10 paperLog) 85) (refusal 85 3 1) ∷
+    -- our own: a local collection frees a cycle inside its partition and keeps what only an unreferenced object of another names, which goes after that one
+    case (session (garbage ∷ localizing 0 ∷ localizing 1 ∷ localizing 0 ∷ []) .replies) (done ∷ done ∷ freed 2 ∷ freed 1 ∷ freed 1 ∷ []) ∷
+    -- and in a phase: allowance 6, 2 freed; the close frees the other 2
+    case (session (garbage ∷ open-call ∷ localizing 0 ∷ tracing 0 ∷ tracing 1 ∷ close-call ∷ []) .replies)
+    (done ∷ done ∷ opened 6 ∷ freed 2 ∷ done ∷ done ∷ closed 2 2 ∷ []) ∷
+    -- on an empty heap: 12, and of partition 2: 7
+    case (session (localizing 0 ∷ localizing 2 ∷ []) .replies) (done ∷ refused 12 0 ∷ refused 7 0 ∷ []) ∷
+    -- the outlist of partition 1 is the name of (0,3)
+    case ((listingOf (session (garbage ∷ []) .image) (record { 0 = 1 })) .outlist) (record { number = 1; names = 4 ∷ replicate 255 0 }) ∷
+    -- a later heading is 5 where its edition exists, else 4, and 3 as the first line
+    case (recoverOf (headings 1) 93) (refusal 93 5 2) ∷ case (recoverOf (headings 2) 93) (refusal 93 5 2) ∷
+    case (recoverOf (headings 3) 93) (refusal 93 4 2) ∷ case (recoverOf (headingOf (rule 3 2 4)) 93) (refusal 93 3 1) ∷
+    -- a local line within a transaction: 5; else it is good under a heading of either edition
+    case (recoverOf (headingOf (rule 2 2 4) ++ (opLines (new 0 0 1 ∷ []) ++ recordOf (local 0))) 93) (refusal 93 5 3) ∷
+    case (recoverOf (paperLog 1 ++ recordOf (local 0)) 93) (recovery 140 threeObjects) ∷
+    case (recoverOf (paperLog 2 ++ recordOf (local 0)) 93) (recovery 140 threeObjects) ∷
+    -- the paper's log, of edition 1 and of 2, cut at 10 bytes: 3 and line 1, zeros
+    case (recoverOf (take 10 (paperLog 1)) 93) (refusal 93 3 1) ∷ case (recoverOf (take 10 (paperLog 2)) 93) (refusal 93 3 1) ∷
     -- at 11 to 88: empty heap, kept 11
-    from-to 11 88 (λ k. recoverOf (take k paperLog) 85) (recovery 11 (blank 2 4)) ∷
+    from-to 11 88 (λ k. recoverOf (take k (paperLog 1)) 93) (recovery 11 (blank 2 4)) ∷
+    from-to 11 88 (λ k. recoverOf (take k (paperLog 2)) 93) (recovery 11 (blank 2 4)) ∷
     -- at 89: three objects, kept 89
-    case (recoverOf (take 89 paperLog) 85) (recovery 89 threeObjects) ∷
+    case (recoverOf (take 89 (paperLog 1)) 93) (recovery 89 threeObjects) ∷
+    case (recoverOf (take 89 (paperLog 2)) 93) (recovery 89 threeObjects) ∷
     -- whole: kept 132, the three objects again
-    case (recoverOf paperLog 85) (recovery 132 threeObjects) ∷
+    case (recoverOf (paperLog 1) 93) (recovery 132 threeObjects) ∷ case (recoverOf (paperLog 2) 93) (recovery 132 threeObjects) ∷
     [])
-unfolding headingRows otherRows allRows beginnings prefixesOf code isIn known following within scan lineOf addr get put lengthOf size blank placeOf partOf wordOf refer release each again tally every first follow pass spread mark markWord store born perform performAll unmarked notClean unclean markRoots allow openUp inside outside finish traceOne clear settle shut closeUp apply check andThen inLimits judgeFormat judgeOp judgeOps rooted led lowest judge act headed feed feedAll tailOk answer recoverOf field letters text printShape print digits decimal recordOf headingOf splice inRange refOk freeOk slotOk rootOk flagOk flagDown unmarkedAt openOk shutOk soundAt isSound call.perform judgeAct judgeCommit formatOf callOf commitOf closeOf
-table = (refl, (refl, (refl, (refl, (refl, (refl, (refl, (refl, (refl, (refl, (refl, (refl, (refl, (refl, (cut-at, (refl, (refl, tt)))))))))))))))))
+unfolding headingRows otherRows allRows beginnings prefixesOf code isIn known following within scan lineOf addr get put lengthOf size blank placeOf partOf wordOf abroad lose gain recount refer release each again tally every first follow pass spread mark markWord store born perform performAll unmarked notClean unclean markRoots allow openUp inside outside finish traceOne clear settle shut closeUp localStart localBits freeBut localUp localFreed hasBit addBit collect apply check andThen inLimits judgeFormat judgeOp judgeOps rooted led lowest judge judgeOutlist act headed feed feedAll tailOk answer recoverOf field letters text printShape print digits decimal recordOf headingOf splice inRange refOk freeOk slotOk points inCount countOk rootOk flagOk flagDown unmarkedAt openOk shutOk soundAt isSound goesOut goesTo outBits nameAt listNames outlist call.perform judgeAct judgeCommit judgeForeign formatOf callOf commitOf closeOf localOf listingOf
+table = (refl, (refl, (refl, (refl, (refl, (refl, (refl, (refl, (refl, (refl, (refl, (refl, (refl, (refl, (refl, (refl, (refl, (refl, (refl, (refl, (refl, (refl, (refl, (refl, (refl, (refl, (cut-at 0 (omega arith), (cut-at 1 (omega arith), (refl, (refl, (refl, (refl, tt))))))))))))))))))))))))))))))))

@@ -5,19 +5,20 @@ use lib.ListN.{take}
 use Rattle.kinds.specs.declared.Partition.{Partition}
 use Rattle.kinds.specs.declared.Operation.{Operation}
 use Rattle.model.specs.Image.{Image}
-use Rattle.model.specs.Acts.{Act, commit, opening, closing, trace}
+use Rattle.model.specs.Acts.{Act, commit, opening, closing, trace, local}
 use Rattle.writer.specs.Record.{opsOf}
 use Rattle.journal.specs.Log.{Payloads}
 use Rattle.catalogue.specs.declared.Answer.{Answer}
 use Rattle.catalogue.specs.declared.Closing.{Closing}
-use Rattle.catalogue.specs.Answers.{said, saidClosing}
-use Rattle.catalogue.specs.Call.{Outcome, formatOf, commitOf, openOf, traceOf, closeOf}
+use Rattle.catalogue.specs.declared.Freeing.{Freeing}
+use Rattle.catalogue.specs.Answers.{Said, said, saidClosing, saidFreeing}
+use Rattle.catalogue.specs.Call.{Outcome, formatOf, commitOf, openOf, traceOf, closeOf, localOf}
 
 -- a call on a heap, with its arguments; of a commit's 32 operations the first n count
 pub data Call : Type 0 where
   commit-call : List Operation → ℕ → Call
   open-call close-call : Call
-  trace-call : Partition → Call
+  trace-call local-call : Partition → Call
 
 -- the act that it is
 abbrev pub actOf : Call → Act
@@ -25,29 +26,31 @@ actOf (commit-call ops n) = commit (take n ops)
 actOf open-call = opening
 actOf (trace-call p) = trace (p .0)
 actOf close-call = closing
+actOf (local-call p) = local (p .0)
 
 -- payloads are 32-bit words (in code they always are)
 abbrev pub Worded : Call → Type 0
 Worded c = Payloads (opsOf (actOf c))
 
--- what a call answers, less what close counts, and leaves: its number (0 is accepted), the length of its record, the image, the log buffer
+-- what a call answers, less what close and local count, and leaves: its number (0 is accepted), the length of its record, the image, the log buffer
 pub record Made : Type 0 where
   pub number : ℕ
   pub length : ℕ
   pub image : Image
   pub log : List ℕ
 
+-- by what its answer says, and which of the values there is the length
+abbrev pub madeOf : {A : Type 0} → Said A → (A → ℕ) → Image → List ℕ → Made
+madeOf s len img log = record { number = s .number; length = len (s .value); image = img; log = log }
+
 abbrev pub answered : Outcome Answer → Made
-answered o = record { number = (said (o .answer)) .number; length = (said (o .answer)) .value; image = o .image; log = o .log }
+answered o = madeOf (said (o .answer)) (λ n. n) (o .image) (o .log)
 
 abbrev pub closed-up : Outcome Closing → Made
-closed-up o =
-    record {
-      number = (saidClosing (o .answer)) .number;
-      length = (saidClosing (o .answer)) .value .length;
-      image = o .image;
-      log = o .log;
-    }
+closed-up o = madeOf (saidClosing (o .answer)) (λ t. t .length) (o .image) (o .log)
+
+abbrev pub freed-up : Outcome Freeing → Made
+freed-up o = madeOf (saidFreeing (o .answer)) (λ y. y .length) (o .image) (o .log)
 
 -- a formatting of the lent words, and a call on them, logged at a place of a buffer
 abbrev pub formatting : Image → ℕ → ℕ → List ℕ → ℕ → Made
@@ -58,3 +61,4 @@ calling img (commit-call ops n) log at = answered (commitOf img ops n log at)
 calling img open-call log at = answered (openOf img log at)
 calling img (trace-call p) log at = answered (traceOf img p log at)
 calling img close-call log at = closed-up (closeOf img log at)
+calling img (local-call p) log at = freed-up (localOf img p log at)

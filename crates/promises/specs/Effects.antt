@@ -1,10 +1,20 @@
--- The question over the public call: when ask is answered, and with what.
+-- What the promises about local and ask speak of: the words that are of no slot; an object that is held, and whether a root leads to it.
 use Prim.Native.Nat.{_<_}
 use mathlib.Core.Logic.{_≢_}
 use Rattle.kinds.specs.declared.Name.{Name}
-use Rattle.model.specs.Image.{Image, state, partitions, slots, get, place}
+use Rattle.model.specs.Image.{Image, Key, head, root, flag, state, payload, inlist, field, partitions, slots, get, place}
 use Rattle.model.specs.Chains.{Leads}
 use Rattle.model.specs.Sound.{Sound}
+
+-- a word of no slot: P, S, the phase, the traces counted, the allowance, a root, a flag
+abbrev pub OfNoSlot : Key → Type 0
+OfNoSlot (head h) = Unit {0}
+OfNoSlot (root r) = Unit {0}
+OfNoSlot (flag p) = Unit {0}
+OfNoSlot (state j) = ⊥
+OfNoSlot (payload j) = ⊥
+OfNoSlot (inlist j) = ⊥
+OfNoSlot (field j k) = ⊥
 
 -- each where the other
 pub record Exactly (A B : Type 0) : Type 0 where

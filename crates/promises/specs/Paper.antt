@@ -9,15 +9,15 @@ use Rattle.kinds.specs.Names.{mostOperations}
 use Rattle.kinds.specs.Operations.{unroot}
 use Rattle.kinds.specs.declared.Operation.{Operation}
 use Rattle.model.specs.Image.{Image, allowance, get}
-use Rattle.catalogue.specs.Answers.{Said, said, saidClosing}
-use Rattle.catalogue.specs.Call.{formatOf, commitOf, openOf, traceOf, closeOf}
-use Rattle.promises.specs.Calls.{Call, commit-call, open-call, trace-call, close-call, Made, formatting, calling}
+use Rattle.catalogue.specs.Answers.{Said, said, saidClosing, saidFreeing}
+use Rattle.catalogue.specs.Call.{formatOf, commitOf, openOf, traceOf, closeOf, localOf}
+use Rattle.promises.specs.Calls.{Call, commit-call, open-call, trace-call, close-call, local-call, Made, formatting, calling}
 
--- the log of the paper's example, byte by byte
-abbrev pub paperLog : List ℕ
-paperLog =
-    -- heap 1 2 4
-    104 ∷ 101 ∷ 97 ∷ 112 ∷ 9 ∷ 49 ∷ 9 ∷ 50 ∷ 9 ∷ 52 ∷ 10 ∷
+-- the log of the paper's example, byte by byte, under a heading of edition e
+abbrev pub paperLog : ℕ → List ℕ
+paperLog e =
+    -- heap e 2 4
+    104 ∷ 101 ∷ 97 ∷ 112 ∷ 9 ∷ (48 + e) ∷ 9 ∷ 50 ∷ 9 ∷ 52 ∷ 10 ∷
     -- new 0 0 10
     110 ∷ 101 ∷ 119 ∷ 9 ∷ 48 ∷ 9 ∷ 48 ∷ 9 ∷ 49 ∷ 48 ∷ 10 ∷
     -- new 1 0 20
@@ -46,7 +46,7 @@ paperLog =
     99 ∷ 108 ∷ 111 ∷ 115 ∷ 101 ∷ 10 ∷
     []
 
--- three objects in a chain from root 0, the phase shut
+-- three objects in a chain from root 0, the phase shut; the last two are named from another partition
 abbrev pub threeObjects : List ℕ
 threeObjects =
     -- P, S, phase, count, allowance
@@ -56,28 +56,28 @@ threeObjects =
     -- flags
     0 ∷ 0 ∷ 0 ∷ 0 ∷ 0 ∷ 0 ∷ 0 ∷ 0 ∷ 0 ∷ 0 ∷ 0 ∷ 0 ∷ 0 ∷ 0 ∷ 0 ∷ 0 ∷
     -- slot 0 of partition 0
-    1 ∷ 10 ∷ 65 ∷ 0 ∷ 0 ∷ 0 ∷
+    1 ∷ 10 ∷ 65 ∷ 0 ∷ 0 ∷ 0 ∷ 0 ∷
     -- slot 1 of partition 0
-    1 ∷ 30 ∷ 0 ∷ 0 ∷ 0 ∷ 0 ∷
+    1 ∷ 30 ∷ 0 ∷ 0 ∷ 0 ∷ 0 ∷ 1 ∷
     -- slot 2 of partition 0
-    0 ∷ 0 ∷ 0 ∷ 0 ∷ 0 ∷ 0 ∷
+    0 ∷ 0 ∷ 0 ∷ 0 ∷ 0 ∷ 0 ∷ 0 ∷
     -- slot 3 of partition 0
-    0 ∷ 0 ∷ 0 ∷ 0 ∷ 0 ∷ 0 ∷
+    0 ∷ 0 ∷ 0 ∷ 0 ∷ 0 ∷ 0 ∷ 0 ∷
     -- slot 0 of partition 1
-    1 ∷ 20 ∷ 2 ∷ 0 ∷ 0 ∷ 0 ∷
+    1 ∷ 20 ∷ 2 ∷ 0 ∷ 0 ∷ 0 ∷ 1 ∷
     -- slot 1 of partition 1
-    0 ∷ 0 ∷ 0 ∷ 0 ∷ 0 ∷ 0 ∷
+    0 ∷ 0 ∷ 0 ∷ 0 ∷ 0 ∷ 0 ∷ 0 ∷
     -- slot 2 of partition 1
-    0 ∷ 0 ∷ 0 ∷ 0 ∷ 0 ∷ 0 ∷
+    0 ∷ 0 ∷ 0 ∷ 0 ∷ 0 ∷ 0 ∷ 0 ∷
     -- slot 3 of partition 1
-    0 ∷ 0 ∷ 0 ∷ 0 ∷ 0 ∷ 0 ∷
+    0 ∷ 0 ∷ 0 ∷ 0 ∷ 0 ∷ 0 ∷ 0 ∷
     []
 
--- what a call answers, in a table: done; an open with the allowance; a close with the traces counted and the number freed; or refused, with the
--- number and the extra answer
+-- what a call answers, in a table: done; an open with the allowance; a close with the traces counted and the number freed; a local with the number freed; or
+-- refused, with the number and the extra answer
 pub data Reply : Type 0 where
   done : Reply
-  opened : ℕ → Reply
+  opened freed : ℕ → Reply
   closed : ℕ → ℕ → Reply
   refused : ℕ → ℕ → Reply
 
@@ -93,6 +93,9 @@ replied img (trace-call p) log at = reply (said ((traceOf img p log at) .answer)
 replied img close-call log at =
     let s = saidClosing ((closeOf img log at) .answer) in
     reply s (closed (s .value .count) (s .value .freed))
+replied img (local-call p) log at =
+    let s = saidFreeing ((localOf img p log at) .answer) in
+    reply s (freed (s .value .freed))
 
 -- after some calls: what each replied, the image, the log buffer, and the byte where the last record ends
 pub record Session : Type 0 where
@@ -107,7 +110,7 @@ after earlier r m at = record { replies = earlier ++ (r ∷ []); image = m .imag
 -- two partitions of four slots are formatted, over words and bytes that are no zeros
 abbrev pub begun : Session
 begun =
-    let img : Image = replicate 85 7 in
+    let img : Image = replicate 93 7 in
     let log : List ℕ = replicate 200 255 in
     after [] (reply (said ((formatOf img 2 4 log 0) .answer)) done) (formatting img 2 4 log 0) 0
 
@@ -123,12 +126,15 @@ continued s (c ∷ cs) = continued (next s c) cs
 abbrev pub session : List Call → Session
 session cs = continued begun cs
 
--- a commit of some operations, the first of 32; a trace
+-- a commit of some operations, the first of 32; a trace and a local collection of a partition
 abbrev pub committing : List Operation → Call
 committing os = commit-call (take mostOperations (os ++ replicate mostOperations (unroot 0))) (length os)
 
 abbrev pub tracing : ℕ → Call
 tracing p = trace-call (record { 0 = p })
+
+abbrev pub localizing : ℕ → Call
+localizing p = local-call (record { 0 = p })
 
 -- a row of a table: what is computed and what it must be; or the same of every number from a to b
 pub data Case : Type 1 where

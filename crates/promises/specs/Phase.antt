@@ -1,14 +1,14 @@
--- Demand 3: a phase, on every heap that calls reached, however commits, traces and recoveries are mixed.
+-- Demand 3: a phase, on every heap that calls reached, however commits, traces, local collections and recoveries are mixed.
 use Prim.Native.Nat.{ℕ, _+_, _*_, _≤_, _<_}
 use mathlib.Core.Bool.{true}
 use mathlib.Core.List.{List, [], _∷_, _++_}
 use mathlib.Core.Path.{_≡_}
-use mathlib.Core.Logic.{_≢_}
+use mathlib.Core.Logic.{_≢_, _⊎_}
 use lib.ListN.{length}
 use Rattle.kinds.specs.declared.Partition.{Partition}
 use Rattle.model.specs.Image.{Image, flag, state, partitions, slots, count, get}
 use Rattle.model.specs.Acts.{Act, opening, closing, trace, unmarked}
-use Rattle.model.specs.Chains.{Leads, Stays, ChainTo}
+use Rattle.model.specs.Chains.{Leads, Stays, ChainToBorn, ChainTo, birthNow}
 use Rattle.model.specs.History.{traces, Unclosed, unrooted}
 use Rattle.model.specs.Sound.{isSound}
 use Rattle.writer.specs.Record.{Rule, recordOf}
@@ -82,4 +82,6 @@ pub record Demand-3-calls (h : Rule) (acts : List Act) (y : Image) : Type 0 wher
   -- the close keeps every object that a root leads to, and frees every object that no chain leads to
   pub keeps : AfterClose y (λ z. (j : ℕ) → Leads (h .S) y j → Stays y z j)
   pub frees : AfterClose y (λ z. (j : ℕ) → j < h .P * h .S → (ChainTo (h .S) earlier (replay h earlier) since j → ⊥) → get z (state j) ≡ 0)
+  -- and so over objects, by place and birth: one that no chain leads to is gone after the close, whether the close or a local collection freed it
+  pub gone : AfterClose y (λ z. (j b : ℕ) → j < h .P * h .S → (ChainToBorn (h .S) earlier (replay h earlier) since j b → ⊥) → (get z (state j) ≡ 0) ⊎ (birthNow (h .S) earlier since j ≢ b))
   pub sound-after : AfterClose y (λ z. isSound z ≡ true)

@@ -14,7 +14,7 @@ use Rattle.kinds.specs.declared.Operation.the-variants.{New, Set, Val, Root}
 use Rattle.kinds.specs.declared.Verdict.{Verdict}
 use Rattle.kinds.specs.declared.Verdict.the-variants.{Accepted, Refused}
 use Rattle.model.specs.Image.{Image, Key, root, flag, state, field, partitions, slots, phase, count, allowance, anchors, get, lengthOf, size, place, placeOf}
-use Rattle.model.specs.Acts.{Act, commit, opening, closing, trace, perform}
+use Rattle.model.specs.Acts.{Act, commit, opening, closing, trace, local, perform}
 use Rattle.model.specs.Sound.{Sound}
 use Rattle.writer.specs.Record.{recordOf, newest, headingOf}
 use Rattle.catalogue.specs.Answers.{Said, accepted, refusedWith}
@@ -131,14 +131,15 @@ operationsRows P S img e [] = []
 operationsRows P S img e (o ∷ os) = operationRows P S img e o ++ operationsRows P S (perform S img o) (e + 1) os
 
 -- an act's own list, in its call as in recovery: each operation in turn; OPEN 11, 12; TRACE 10, 7, 13, 15;
--- CLOSE 10, 12, 14, 16, with 14 the lowest partition that is not clean
+-- CLOSE 10, 12, 14, 16, with 14 the lowest partition that is not clean; LOCAL 7, 12
 abbrev pub actRows : Image → Act → List Row
 actRows img (commit os) = operationsRows (get img partitions) (get img slots) img 1 os
 actRows img opening = given 11 0 (AlreadyOpen img) ∷ given 12 0 (NoRoot img) ∷ []
 actRows img (trace p) = given 10 0 (NotOpen img) ∷ given 7 0 (get img partitions ≤ p) ∷ given 13 0 (Clean img p) ∷ given 15 0 (Spent img) ∷ []
 actRows img closing = given 10 0 (NotOpen img) ∷ given 12 0 (NoRoot img) ∷ telling 14 (Lowest img) ∷ given 16 0 (Astray img) ∷ []
+actRows img (local p) = given 7 0 (get img partitions ≤ p) ∷ given 12 0 (NoRoot img) ∷ []
 
--- OPEN, TRACE, CLOSE: 1, the act's own list, 17
+-- OPEN, TRACE, CLOSE, LOCAL: 1, the act's own list, 17
 abbrev pub callRows : Image → Act → List ℕ → ℕ → List Row
 callRows img a log at = given 1 0 (Unsound img) ∷ (actRows img a ++ (given 17 0 (NoRoom (recordOf a) at log) ∷ []))
 
@@ -146,6 +147,10 @@ callRows img a log at = given 1 0 (Unsound img) ∷ (actRows img a ++ (given 17 
 abbrev pub commitRows : Image → List Operation → ℕ → List ℕ → ℕ → List Row
 commitRows img ops n log at =
     given 1 0 (Unsound img) ∷ given 6 0 (WrongCount n) ∷ (actRows img (commit (take n ops)) ++ (given 17 0 (NoRoom (recordOf (commit (take n ops))) at log) ∷ []))
+
+-- OUTLIST 1, 7
+abbrev pub outlistRows : Image → ℕ → List Row
+outlistRows img p = given 1 0 (Unsound img) ∷ given 7 0 (get img partitions ≤ p) ∷ []
 
 -- READ and ASK 1, 7, 9
 abbrev pub objectRows : Image → Name → List Row

@@ -68,13 +68,6 @@ pub fn read(img: &[u32], s: usize, n: Name) -> Record
     }
 }
 
-// As many zeros as there can be places.
-fn zeros() -> [u32; 1024]
-    ensures { λ r. ⌜ r ≡ replicate 1024 0 ⌝ }
-{
-    [0u32; 1024]
-}
-
 // What the word at an address names, if anything, is noted: marked, and put at the end of the list.
 fn note(
     img: &[u32],
@@ -165,8 +158,8 @@ pub fn ask(img: &[u32], p: usize, s: usize, n: Name) -> bool
     ensures { λ r. ⌜ r ≡ Questions.ask p s (now (img .entry)) (place s n) ⌝ }
 {
     let j = image::place(n, s);
-    let mut marks = zeros();
-    let mut list = zeros();
+    let mut marks = image::zeros();
+    let mut list = image::zeros();
     spread(img, p, s, &mut marks, &mut list);
     if marks[j] == 1 {
         return true;

@@ -12,7 +12,7 @@ use borrow.Author.Tests.{lt-ltb, le-ltb, le-leb, lt-leb}
 use Rattle.kinds.specs.declared.Refusal.{Refusal}
 use Rattle.kinds.specs.declared.Verdict.{Verdict}
 use Rattle.kinds.specs.declared.Verdict.the-variants.{Accepted, Refused}
-use Rattle.model.specs.Image.{Image, phase, get}
+use Rattle.model.specs.Image.{Image, front, stride, phase, get}
 use Rattle.journal.specs.Recover.{Recovered, recoverOf}
 use Rattle.lines.specs.Print.{Put}
 use Rattle.writer.specs.declared.Written.{Written}
@@ -22,7 +22,7 @@ use Rattle.recovery.specs.Out.{out}
 use Rattle.recovery.specs.declared.Recovery.{Recovery}
 use Rattle.recovery.specs.declared.Recovery.the-variants.{Kept, Refused as NotKept}
 use Rattle.reporting.specs.declared.asked.Asked.{Asked}
-use Rattle.reporting.specs.Report.{mostBytes, room, answerWord, lineWord, keptWord, phaseWord, toolongWord, row, objects, refusedText, keptText, told, shown, askedOf, lent, recoveredText, reportOf, reported}
+use Rattle.reporting.specs.Report.{mostBytes, mostWords, room, answerWord, lineWord, keptWord, phaseWord, toolongWord, row, objects, refusedText, keptText, told, shown, askedOf, lent, recoveredText, reportOf, reported}
 use Rattle.reporting.proofs.Headings.{Bounded, asked-bounded}
 use Rattle.reporting.proofs.Recoveries.{Small, recover-small}
 use Rattle.reporting.proofs.Texts.{row-length, objects-length, places-most}
@@ -110,7 +110,7 @@ module _ (log : List ℕ) (len : ℕ) (r : Recovery) (y : Image) (e : out r y �
     refused-shown n q = ap (shown P S) (answered (NotKept n) q)
 
 -- the part of the largest image that is lent
-module _ (log : List ℕ) (a : Asked) (e : a ≡ askedOf log) (img : List ℕ) (l : length img ≡ 6181) where
+module _ (log : List ℕ) (a : Asked) (e : a ≡ askedOf log) (img : List ℕ) (l : length img ≡ mostWords) where
   bounds : Bounded a
   bounds = subst Bounded (sym e) (asked-bounded log)
 
@@ -120,7 +120,7 @@ module _ (log : List ℕ) (a : Asked) (e : a ≡ askedOf log) (img : List ℕ) (
   pub words-lent : length (take (a .words) img) ≡ a .words
   words-lent = length-take-le (a .words) img words-fit
 
-  pub lent-whole : (a .partitions ≤ 16) × (a .slots ≤ 64) × (0 < length (take (a .words) img) → length (take (a .words) img) ≡ 37 + 6 * (a .partitions * a .slots))
+  pub lent-whole : (a .partitions ≤ 16) × (a .slots ≤ 64) × (0 < length (take (a .words) img) → length (take (a .words) img) ≡ front + stride * (a .partitions * a .slots))
   lent-whole = (bounds .few, bounds .narrow, λ h. words-lent ∙ bounds .whole (omega (arith, words-lent)))
 
   pub lent-report : length log ≤ mostBytes → shown (a .partitions) (a .slots) (recoverOf log (length (take (a .words) img))) ≡ reportOf log

@@ -16,7 +16,7 @@ use Rattle.lines.proofs.Digits.{decimal-length, decimal-length-small, decimal-l
 use Rattle.lines.specs.Decimal.{decimal}
 use Rattle.lines.specs.Print.{Put}
 use Rattle.model.specs.Acts.{used}
-use Rattle.model.specs.Image.{Image, payload, addr, get}
+use Rattle.model.specs.Image.{Image, front, stride, payload, addr, get}
 use Rattle.writer.proofs.Puts.{put-byte, put-then, put-length}
 use Rattle.reporting.specs.Report.{objectWord, spaced, row, objectAt, objects}
 
@@ -88,13 +88,13 @@ put-word l m word at i h p = subst (λ (xs : List ℕ). Put l m at xs (at + i)) 
 
 -- what is said of a place, by the word that is its state
 module _ (S : ℕ) (y : Image) (j : ℕ) where
-  pub place-free : getD y (37 + 6 * j) 0 ≡ 0 → objectAt S y j ≡ []
+  pub place-free : getD y (front + stride * j) 0 ≡ 0 → objectAt S y j ≡ []
   unfolding objectAt get addr
-  place-free e = rw (eq-eqb (getD y (37 + 6 * j) 0) 0 e)
+  place-free e = rw (eq-eqb (getD y (front + stride * j) 0) 0 e)
 
-  pub place-used : getD y (37 + 6 * j) 0 ≢ 0 → objectAt S y j ≡ row objectWord (j / S ∷ j % S ∷ getD y (37 + 6 * j + 1) 0 ∷ [])
+  pub place-used : getD y (front + stride * j) 0 ≢ 0 → objectAt S y j ≡ row objectWord (j / S ∷ j % S ∷ getD y (front + stride * j + 1) 0 ∷ [])
   unfolding objectAt get addr
-  place-used e = rw (ne-eqb (getD y (37 + 6 * j) 0) 0 e)
+  place-used e = rw (ne-eqb (getD y (front + stride * j) 0) 0 e)
 
 -- one more place
 module _ (S : ℕ) (y : Image) (j : ℕ) {before after : List ℕ} {at next : ℕ} (p : Put before after at (objects S y j) next) where

@@ -1,19 +1,20 @@
 -- The report: its bytes, as a definition of the log.
-use Prim.Native.Nat.{ℕ, zero, suc, _*_, _/_, _%_}
+use Prim.Native.Nat.{ℕ, zero, suc, _+_, _*_, _/_, _%_}
 use mathlib.Core.Bool.{cond}
 use mathlib.Core.List.{List, [], _∷_, _++_}
 use lib.Dec.{leb, ltb}
 use lib.ListN.{length}
+use Rattle.kinds.specs.Names.{mostPartitions, mostSlots}
 use Rattle.kinds.specs.declared.Verdict.{Verdict}
 use Rattle.kinds.specs.declared.Verdict.the-variants.{Accepted, Refused}
 use Rattle.lines.specs.declared.cursor.Step.{Step}
 use Rattle.lines.specs.declared.cursor.Step.the-variants.{Line as ALine, Tail}
 use Rattle.lines.specs.declared.line.Line.{Line}
-use Rattle.lines.specs.declared.line.Line.the-variants.{Heading, Operation, End, Open, Trace, Close, Bad}
+use Rattle.lines.specs.declared.line.Line.the-variants.{Heading, Operation, End, Open, Trace, Close, Local, Bad}
 use Rattle.lines.specs.Cursor.{stepOf}
 use Rattle.lines.specs.Decimal.{decimal}
 use Rattle.model.specs.Acts.{used}
-use Rattle.model.specs.Image.{Image, payload, phase, get, size}
+use Rattle.model.specs.Image.{Image, front, stride, payload, phase, get, size}
 use Rattle.model.specs.Judge.{inLimits}
 use Rattle.journal.specs.Recover.{Recovered, recoverOf}
 use Rattle.writer.specs.declared.Written.the-variants.{Done, Full}
@@ -23,6 +24,10 @@ use Rattle.reporting.specs.declared.asked.Asked.{Asked}
 -- a log of more bytes is too long
 abbrev pub mostBytes : ℕ
 mostBytes = 32768
+
+-- the words of the largest image
+abbrev pub mostWords : ℕ
+mostWords = front + stride * (mostPartitions * mostSlots)
 
 -- the bytes that a report is lent; none has more
 abbrev pub room : ℕ
@@ -111,6 +116,7 @@ askedBy (End k) = nothingAsked
 askedBy Open = nothingAsked
 askedBy (Trace p) = nothingAsked
 askedBy Close = nothingAsked
+askedBy (Local p) = nothingAsked
 askedBy Bad = nothingAsked
 
 -- a log without a complete line asks for nothing

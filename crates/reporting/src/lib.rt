@@ -9,6 +9,7 @@ use crate::asked::asked_of;
 use crate::rows::put_kept;
 use crate::rows::put_refused;
 use crate::rows::put_toolong;
+use image::WORDS;
 use recovery::Recovery;
 use writer::Written;
 ghost use mathlib.Core.Path.{_≡_};
@@ -19,7 +20,7 @@ ghost use Rattle.kinds.specs.Names.{mostPartitions, mostSlots};
 ghost use Rattle.model.specs.Image.{front, stride};
 ghost use Rattle.writer.specs.Write.{wrote};
 ghost use Rattle.journal.specs.Recover.{recoverOf};
-ghost use Rattle.reporting.specs.Report.{mostBytes, room, shown, reportOf, reported};
+ghost use Rattle.reporting.specs.Report.{mostBytes, mostWords, room, shown, reportOf, reported};
 
 // The most bytes of a log.
 pub const MOST: usize = 32768;
@@ -27,11 +28,11 @@ pub const MOST: usize = 32768;
 // The bytes that a report is lent.
 pub const ROOM: usize = 32768;
 
-// The words of the largest image.
-fn image() -> [u32; 6181]
-    ensures { λ r. ⌜ length r ≡ 6181 ⌝ }
+// Room for the largest image.
+fn image() -> [u32; WORDS]
+    ensures { λ r. ⌜ length r ≡ mostWords ⌝ }
 {
-    [0; 6181]
+    [0; WORDS]
 }
 
 // What recovery into the lent words answers; they are as many as P and S ask for, or none.

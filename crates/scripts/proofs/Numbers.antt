@@ -12,7 +12,7 @@ use borrow.Author.Tests.{lt-ltb, ltb-true, eq-eqb, eqb-true}
 use Rattle.loops.specs.Loop.{both}
 use Rattle.loops.proofs.Tests.{both-true, is-false}
 use Rattle.lines.specs.declared.line.Line.{Line}
-use Rattle.lines.specs.declared.line.Line.the-variants.{Heading, Operation, End, Open, Trace, Close, Bad}
+use Rattle.lines.specs.declared.line.Line.the-variants.{Heading, Operation, End, Open, Trace, Close, Local, Bad}
 use Rattle.lines.specs.declared.machine.Scan.{Scan}
 use Rattle.lines.specs.Decimal.{digits, decimal}
 use Rattle.lines.specs.Words.{headingRows, otherRows, allRows, beginnings, prefixesOf, code, isIn, known, following, endText}
@@ -120,6 +120,7 @@ parsed (End v) = Is v
 parsed Open = Not
 parsed (Trace p) = Not
 parsed Close = Not
+parsed (Local p) = Not
 parsed Bad = Not
 
 -- the elements of a slice of bytes are bytes
@@ -145,6 +146,7 @@ module _ (word : List ℕ) (h : Bytes word) where
   by-line Open q = other _ q (λ v b. absurd (let z : _≡_ {A = ℕ} 0 1 = cc in omega arith))
   by-line (Trace p) q = other _ q (λ v b. absurd (let z : _≡_ {A = ℕ} 0 1 = cc in omega arith))
   by-line Close q = other _ q (λ v b. absurd (let z : _≡_ {A = ℕ} 0 1 = cc in omega arith))
+  by-line (Local p) q = other _ q (λ v b. absurd (let z : _≡_ {A = ℕ} 0 1 = cc in omega arith))
   by-line Bad q = other _ q (λ v b. absurd (let z : _≡_ {A = ℕ} 0 1 = cc in omega arith))
 
 -- what the machine finds of a word is the number that the word is

@@ -5,7 +5,7 @@ use mathlib.Core.List.{List}
 use lib.Dec.{eqb}
 use lib.ListN.{getD}
 use Rattle.lines.specs.declared.line.Line.{Line}
-use Rattle.lines.specs.declared.line.Line.the-variants.{Heading, Operation as OperationLine, End, Open, Trace, Close, Bad as BadLine}
+use Rattle.lines.specs.declared.line.Line.the-variants.{Heading, Operation as OperationLine, End, Open, Trace, Close, Local, Bad as BadLine}
 use Rattle.lines.specs.declared.machine.Scan.the-variants.{Number as InNumber}
 use Rattle.lines.specs.Line.{finish}
 use Rattle.scripts.specs.declared.run.Span.{Span}
@@ -81,6 +81,7 @@ waiting (End n) = NoOperation
 waiting Open = NoOperation
 waiting (Trace p) = NoOperation
 waiting Close = NoOperation
+waiting (Local p) = NoOperation
 waiting BadLine = NoOperation
 
 -- the operation that a call names is that of the log's line of the same words

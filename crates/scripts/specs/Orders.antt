@@ -4,18 +4,18 @@ use mathlib.Core.Bool.{cond}
 use mathlib.Core.List.{List, [], _∷_}
 use lib.Dec.{eqb}
 use Rattle.kinds.specs.Names.{named}
-use Rattle.lines.specs.Words.{code, openText, traceText, closeText}
+use Rattle.lines.specs.Words.{code, openText, traceText, closeText, localText}
 use Rattle.scripts.specs.declared.command.Call.{Call as A-call}
 use Rattle.scripts.specs.declared.command.Command.{Command}
 use Rattle.scripts.specs.declared.command.Command.the-variants.{Nothing as NoCommand, Bytes as SomeBytes, Call, What as NoShape}
 use Rattle.scripts.specs.declared.command.Waiting.{Waiting}
 use Rattle.scripts.specs.declared.command.Waiting.the-variants.{Operation, Nothing as NoOperation}
-use Rattle.scripts.specs.declared.order.Look.the-variants.{Read, Ask, Digest, Show, Log, Help}
-use Rattle.scripts.specs.declared.order.Deed.the-variants.{Word, Format, Commit, Open, Trace, Close, Recover, Look}
+use Rattle.scripts.specs.declared.order.Look.the-variants.{Read, Ask, Outlist, Digest, Show, Log, Help}
+use Rattle.scripts.specs.declared.order.Deed.the-variants.{Word, Format, Commit, Open, Trace, Close, Local, Recover, Look}
 use Rattle.scripts.specs.declared.order.Order.{Order}
 use Rattle.scripts.specs.declared.order.Order.the-variants.{Nothing, What, Image, Buffer, Bytes, Wait, Deed}
 use Rattle.scripts.specs.Commands.{operationOf}
-use Rattle.scripts.specs.Table.{imageText, wordText, bufferText, formatText, commitText, readText, askText, recoverText, digestText, showText, logText, helpText}
+use Rattle.scripts.specs.Table.{imageText, wordText, bufferText, formatText, commitText, readText, askText, outlistText, recoverText, digestText, showText, logText, helpText}
 
 -- a keyword, and what it asks for
 pub record Arm : Type 0 where
@@ -36,8 +36,10 @@ arms k =
     ∷ arm openText (Deed (Open (k .e)))
     ∷ arm traceText (Deed (Trace (record { 0 = k .d }) (k .e)))
     ∷ arm closeText (Deed (Close (k .e)))
+    ∷ arm localText (Deed (Local (record { 0 = k .d }) (k .e)))
     ∷ arm readText (Deed (Look (Read (named (k .d) (k .e)))))
     ∷ arm askText (Deed (Look (Ask (named (k .d) (k .e)))))
+    ∷ arm outlistText (Deed (Look (Outlist (record { 0 = k .e }))))
     ∷ arm recoverText (Deed (Recover (k .e)))
     ∷ arm digestText (Deed (Look Digest))
     ∷ arm showText (Deed (Look Show))

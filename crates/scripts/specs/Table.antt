@@ -3,7 +3,7 @@ use Prim.Native.Nat.{ℕ}
 use mathlib.Core.Bool.{cond}
 use mathlib.Core.List.{List, [], _∷_}
 use lib.Dec.{eqb}
-use Rattle.lines.specs.Words.{Row, code, newText, setText, clrText, valText, rootText, unrootText, openText, traceText, closeText}
+use Rattle.lines.specs.Words.{Row, code, newText, setText, clrText, valText, rootText, unrootText, openText, traceText, closeText, localText}
 
 -- the bytes of each keyword that is none of the log's
 abbrev pub imageText : List ℕ
@@ -26,6 +26,9 @@ readText = 114 ∷ 101 ∷ 97 ∷ 100 ∷ []
 
 abbrev pub askText : List ℕ
 askText = 97 ∷ 115 ∷ 107 ∷ []
+
+abbrev pub outlistText : List ℕ
+outlistText = 111 ∷ 117 ∷ 116 ∷ 108 ∷ 105 ∷ 115 ∷ 116 ∷ []
 
 abbrev pub recoverText : List ℕ
 recoverText = 114 ∷ 101 ∷ 99 ∷ 111 ∷ 118 ∷ 101 ∷ 114 ∷ []
@@ -59,8 +62,10 @@ rows =
     ∷ record { text = openText; numbers = 1 }
     ∷ record { text = traceText; numbers = 2 }
     ∷ record { text = closeText; numbers = 1 }
+    ∷ record { text = localText; numbers = 2 }
     ∷ record { text = readText; numbers = 2 }
     ∷ record { text = askText; numbers = 2 }
+    ∷ record { text = outlistText; numbers = 1 }
     ∷ record { text = recoverText; numbers = 1 }
     ∷ record { text = digestText; numbers = 0 }
     ∷ record { text = showText; numbers = 0 }

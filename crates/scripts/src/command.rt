@@ -114,6 +114,7 @@ impl Call {
             Line::Open => Waiting::Nothing,
             Line::Trace(_) => Waiting::Nothing,
             Line::Close => Waiting::Nothing,
+            Line::Local(_) => Waiting::Nothing,
             Line::Bad => Waiting::Nothing,
         }
     }

@@ -49,6 +49,7 @@ pub(crate) fn number(word: &[u8]) -> Parsed
         Line::Open => Parsed::Not,
         Line::Trace(_) => Parsed::Not,
         Line::Close => Parsed::Not,
+        Line::Local(_) => Parsed::Not,
         Line::Bad => Parsed::Not,
     }
 }

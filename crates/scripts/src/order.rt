@@ -10,8 +10,10 @@ use crate::table::DIGEST;
 use crate::table::FORMAT;
 use crate::table::HELP;
 use crate::table::IMAGE;
+use crate::table::LOCAL;
 use crate::table::LOG;
 use crate::table::OPEN;
+use crate::table::OUTLIST;
 use crate::table::READ;
 use crate::table::RECOVER;
 use crate::table::SHOW;
@@ -29,6 +31,7 @@ ghost use Rattle.scripts.specs.Orders.{keyed, called, orderOf};
 pub enum Look {
     Read(Name),
     Ask(Name),
+    Outlist(Partition),
     Digest,
     Show,
     Log(usize),
@@ -43,6 +46,7 @@ pub enum Deed {
     Open(usize),
     Trace(Partition, usize),
     Close(usize),
+    Local(Partition, usize),
     Recover(usize),
     Look(Look),
 }
@@ -83,8 +87,10 @@ fn keyed(k: Call) -> Order
         OPEN => Order::Deed(Deed::Open(to)),
         TRACE => Order::Deed(Deed::Trace(Partition(k.d), to)),
         CLOSE => Order::Deed(Deed::Close(to)),
+        LOCAL => Order::Deed(Deed::Local(Partition(k.d), to)),
         READ => Order::Deed(Deed::Look(Look::Read(named(k.d, k.e)))),
         ASK => Order::Deed(Deed::Look(Look::Ask(named(k.d, k.e)))),
+        OUTLIST => Order::Deed(Deed::Look(Look::Outlist(Partition(k.e)))),
         RECOVER => Order::Deed(Deed::Recover(to)),
         DIGEST => Order::Deed(Deed::Look(Look::Digest)),
         SHOW => Order::Deed(Deed::Look(Look::Show)),

@@ -26,9 +26,13 @@ pub const TRACE: u64 = lines::words::TRACE;
 
 pub const CLOSE: u64 = lines::words::CLOSE;
 
+pub const LOCAL: u64 = lines::words::LOCAL;
+
 pub const READ: u64 = 1919246692;
 
 pub const ASK: u64 = 6386539;
+
+pub const OUTLIST: u64 = 31372865310389108;
 
 pub const RECOVER: u64 = 32199625091212658;
 
@@ -49,8 +53,8 @@ pub(crate) fn takes(w: u64) -> usize
 {
     match w {
         DIGEST | SHOW | HELP => 0,
-        IMAGE | BUFFER | UNROOT | COMMIT | OPEN | CLOSE | RECOVER | LOG => 1,
-        WORD | TRACE | READ | ASK => 2,
+        IMAGE | BUFFER | UNROOT | COMMIT | OPEN | CLOSE | OUTLIST | RECOVER | LOG => 1,
+        WORD | TRACE | LOCAL | READ | ASK => 2,
         FORMAT | NEW | CLR | VAL | ROOT => 3,
         SET => 5,
         _ => NONE,

@@ -13,12 +13,13 @@ use Rattle.desk.specs.declared.Desk.{Desk}
 use Rattle.desk.specs.declared.Turn.{Turn}
 use Rattle.desk.specs.Desk.{Lent, stepOf}
 use Rattle.desk.proofs.Staying.{step-stays}
+use Rattle.reporting.specs.Report.{mostWords}
 use Rattle.shell.specs.declared.feed.Feed.{Feed}
 use Rattle.shell.specs.declared.start.Start.{Start}
 use Rattle.shell.specs.Feed.{Fed, Begun, room}
 
 pub record Held (d : Desk) (img log script : List ℕ) (f : Feed) (line : ℕ) : Type 0 where
-  pub words : 6181 ≡ length img
+  pub words : mostWords ≡ length img
   pub bytes : 65536 ≡ length log
   pub space : room ≡ length script
   pub lent : Lent d img log
@@ -26,7 +27,7 @@ pub record Held (d : Desk) (img log script : List ℕ) (f : Feed) (line : ℕ) :
   pub counted : line ≤ f .at
   pub fed : Fed f
 
-pub held-first : (s : Start) (img log script : List ℕ) (f : Feed) → 6181 ≡ length img → 65536 ≡ length log → room ≡ length script → Begun s → Fed f → Held (s .desk) img log script f 0
+pub held-first : (s : Start) (img log script : List ℕ) (f : Feed) → mostWords ≡ length img → 65536 ≡ length log → room ≡ length script → Begun s → Fed f → Held (s .desk) img log script f 0
 held-first s img log script f m n k b g =
     record {
       words = m;
@@ -40,7 +41,7 @@ held-first s img log script f m n k b g =
 
 -- after a line
 module _ (d : Desk) (img log script : List ℕ) (f : Feed) (n : ℕ) (h : Held d img log script f n) (line : List ℕ) (ops : List Operation) (o : Order) (t : Turn) (img′ log′ : List ℕ)
-    (q : outcome t img′ log′ ≡ stepOf o line d ops img log) (m : 6181 ≡ length img′) (b : 65536 ≡ length log′) where
+    (q : outcome t img′ log′ ≡ stepOf o line d ops img log) (m : mostWords ≡ length img′) (b : 65536 ≡ length log′) where
   pub lent-next : Lent (t .desk) img′ log′
   lent-next =
       let s = step-stays line d ops img log (h .lent) o t img′ log′ q in

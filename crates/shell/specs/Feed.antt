@@ -1,6 +1,7 @@
 -- Where the lines of a script stand, and what is lent before the first.
 use Prim.Native.Nat.{ℕ, _+_, _≤_}
 use mathlib.Core.Path.{_≡_}
+use Rattle.reporting.specs.Report.{mostWords}
 use Rattle.shell.specs.declared.feed.Feed.{Feed}
 use Rattle.shell.specs.declared.start.Start.{Start}
 
@@ -21,6 +22,6 @@ pub record Fed (f : Feed) : Type 0 where
 
 -- no more is lent than there is, and nothing waits
 pub record Begun (s : Start) : Type 0 where
-  pub words : s .desk .words ≤ 6181
+  pub words : s .desk .words ≤ mostWords
   pub bytes : s .desk .bytes ≤ 65536
   pub waits : s .desk .waits ≡ 0

@@ -8,12 +8,16 @@ use crate::out::valued;
 use catalogue::Answer;
 use catalogue::Asked;
 use catalogue::Closing;
+use catalogue::Freeing;
+use catalogue::Listing;
 use catalogue::Reading;
 use kinds::Name;
+use kinds::Outlist;
 use kinds::Record;
 use kinds::Refusal;
 use kinds::Target;
 use kinds::Verdict;
+use kinds::target_of;
 use recovery::Recovery;
 
 pub(crate) fn what(out: &mut [u8; 4096], at: usize) -> usize {
@@ -52,6 +56,17 @@ pub(crate) fn closed(out: &mut [u8; 4096], at: usize, c: Closing) -> usize {
             end(out, d)
         }
         Closing::Refused(r) => refused(out, at, r),
+    }
+}
+
+pub(crate) fn freed(out: &mut [u8; 4096], at: usize, f: Freeing) -> usize {
+    match f {
+        Freeing::Freed(n, k) => {
+            let a = valued(&mut *out, at, b"done", n as u64);
+            let b = number(&mut *out, a, k as u64);
+            end(out, b)
+        }
+        Freeing::Refused(r) => refused(out, at, r),
     }
 }
 
@@ -104,6 +119,34 @@ pub(crate) fn found(out: &mut [u8; 4096], at: usize, r: Reading) -> usize {
     let object = r.object;
     match v {
         Verdict::Accepted => record(out, at, object),
+        Verdict::Refused(f) => refused(out, at, f),
+    }
+}
+
+// Unused names are 0, and stand behind the others.
+fn names(out: &mut [u8; 4096], at: usize, o: Outlist) -> usize {
+    let words = o.names;
+    let mut n = valued(&mut *out, at, b"outlist", o.number as u64);
+    let mut i = 0;
+    while i < Outlist::LIMIT {
+        n = held(&mut *out, n, words[i]);
+        i += 1;
+    }
+    end(out, n)
+}
+
+fn held(out: &mut [u8; 4096], at: usize, w: u32) -> usize {
+    if w == 0 {
+        return at;
+    }
+    target(out, at, target_of(w))
+}
+
+pub(crate) fn listed(out: &mut [u8; 4096], at: usize, l: Listing) -> usize {
+    let v = l.verdict;
+    let outlist = l.outlist;
+    match v {
+        Verdict::Accepted => names(out, at, outlist),
         Verdict::Refused(f) => refused(out, at, f),
     }
 }

@@ -20,8 +20,10 @@ pub(crate) fn help(out: &mut [u8; 4096], at: usize) -> usize {
         open AT         opens a phase\n\
         trace P AT      traces partition P\n\
         close AT        closes the phase, and frees\n\
+        local P AT      frees partition P on its own\n\
         read P S        the object P.S\n\
         ask P S         whether a root leads to P.S\n\
+        outlist P       what partition P names in others\n\
         recover N       recovery of the first N bytes of the log\n\
         digest          a sum of the image and one of the log\n\
         show            the image\n\

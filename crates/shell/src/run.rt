@@ -8,6 +8,7 @@ use crate::say::say;
 use crate::start::begin;
 use desk::Said;
 use desk::step;
+use image::WORDS;
 use kinds::Operation;
 use kinds::Target;
 use scripts::command::parse;
@@ -15,13 +16,14 @@ use scripts::order::Order;
 use scripts::order::order_of;
 ghost use mathlib.Core.Path.{_≡_};
 ghost use lib.ListN.{length};
+ghost use Rattle.reporting.specs.Report.{mostWords};
 ghost use Rattle.shell.specs.Feed.{room};
 
 // The most words of an image, and the most bytes of a log buffer.
-fn words() -> [u32; 6181]
-    ensures { λ r. ⌜ 6181 ≡ length r ⌝ }
+fn words() -> [u32; WORDS]
+    ensures { λ r. ⌜ mostWords ≡ length r ⌝ }
 {
-    [0; 6181]
+    [0; WORDS]
 }
 
 fn bytes() -> [u8; 65536]

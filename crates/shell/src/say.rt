@@ -4,6 +4,8 @@ use crate::answer::asked;
 use crate::answer::closed;
 use crate::answer::counted;
 use crate::answer::found;
+use crate::answer::freed;
+use crate::answer::listed;
 use crate::answer::ok;
 use crate::answer::recovered;
 use crate::answer::what;
@@ -15,6 +17,7 @@ use crate::out::send_front;
 use crate::show::show;
 use desk::Desk;
 use desk::Said;
+use image::WORDS;
 use scripts::order::Look;
 ghost use Rattle.desk.specs.Desk.{Lent};
 
@@ -30,6 +33,7 @@ fn seen(l: Look, img: &[u32], log: &[u8], out: &mut [u8; 4096], at: usize) -> us
     match l {
         Look::Read(n) => found(out, at, catalogue::read(img, n)),
         Look::Ask(n) => asked(out, at, catalogue::ask(img, n)),
+        Look::Outlist(p) => listed(out, at, catalogue::outlist(img, p)),
         Look::Digest => digest(out, at, img, log),
         Look::Show => show(out, at, img),
         Look::Log(n) => front(n, log, &*out, at),
@@ -49,7 +53,7 @@ fn seen_on(l: Look, d: Desk, img: &[u32], log: &[u8], out: &mut [u8; 4096], at: 
 pub(crate) fn say(
     said: Said,
     d: Desk,
-    img: &[u32; 6181],
+    img: &[u32; WORDS],
     log: &[u8; 65536],
     out: &mut [u8; 4096],
     at: usize,
@@ -63,6 +67,7 @@ pub(crate) fn say(
         Said::Waits(n) => counted(out, at, b"waits", n),
         Said::Done(a) => answered(out, at, a),
         Said::Closed(c) => closed(out, at, c),
+        Said::Freed(f) => freed(out, at, f),
         Said::Recovered(r) => recovered(out, at, r),
         Said::Look(l) => seen_on(l, d, img, log, out, at),
     }

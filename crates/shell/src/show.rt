@@ -10,6 +10,7 @@ use crate::out::valued;
 use kinds::target_of;
 ghost use Prim.Native.Nat.{_+_, _≤_};
 ghost use lib.ListN.{length};
+ghost use Rattle.model.specs.Image.{stride};
 
 // The word at a place; 0 past the end.
 fn word(words: &[u32], i: usize) -> u32 {
@@ -119,11 +120,11 @@ fn mark(out: &mut [u8; 4096], at: usize, state: u32) -> usize {
 
 // The four fields of the object whose words start at a place.
 fn fields(out: &mut [u8; 4096], at: usize, words: &[u32], from: usize) -> usize
-    requires { ⌜ from + 6 ≤ length (now words) ⌝ }
+    requires { ⌜ from + stride ≤ length (now words) ⌝ }
 {
     let mut n = at;
     let mut k = 2;
-    while k < image::STRIDE {
+    while k < image::INLIST {
         n = target(&mut *out, n, target_of(words[from + k]));
         k += 1;
     }
@@ -132,7 +133,7 @@ fn fields(out: &mut [u8; 4096], at: usize, words: &[u32], from: usize) -> usize
 
 // The object whose words start at a place.
 fn object(out: &mut [u8; 4096], at: usize, words: &[u32], from: usize, p: usize, s: usize) -> usize
-    requires { ⌜ from + 6 ≤ length (now words) ⌝ }
+    requires { ⌜ from + stride ≤ length (now words) ⌝ }
 {
     let state = words[from];
     if state == 0 {
@@ -143,7 +144,8 @@ fn object(out: &mut [u8; 4096], at: usize, words: &[u32], from: usize, p: usize,
     let c = valued(&mut *out, b, b" payload", wide(words[from + 1]));
     let d = mark(&mut *out, c, state);
     let e = fields(&mut *out, d, words, from);
-    end(out, e)
+    let f = valued(&mut *out, e, b" counted", wide(words[from + image::INLIST]));
+    end(out, f)
 }
 
 // Every object, in partition then slot order.

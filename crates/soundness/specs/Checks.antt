@@ -1,16 +1,18 @@
--- The tests that soundness makes at every index, by name: one loop serves them all.
+-- The tests that soundness makes at every index, by name, and the tally of foreign references that its pass over the slots leaves.
 use Prim.Native.Nat.{ℕ, _+_, _*_, _/_, _%_, _≤_, _<_}
 use mathlib.Core.Path.{_≡_}
-use mathlib.Core.Bool.{Bool, true, cond}
-use lib.Dec.{eqb, leb}
-use lib.ListN.{length}
-use Rattle.loops.specs.Loop.{both, every}
+use mathlib.Core.Bool.{Bool, cond}
+use mathlib.Core.List.{List}
+use lib.Dec.{leb}
+use lib.ListN.{length, getD}
+use Rattle.loops.specs.Loop.{both, every, tally}
 use Rattle.kinds.specs.Names.{mostPartitions, mostSlots}
-use Rattle.model.specs.Image.{Image, front, stride, anchors, state, payload, field, phase, get}
-use Rattle.model.specs.Acts.{used, isOpen}
-use Rattle.model.specs.Sound.{refOk, rootOk, flagOk, flagDown, unmarkedAt, openOk, shutOk}
+use Rattle.model.specs.Image.{Image, front, stride, anchors, field, phase, get}
+use Rattle.model.specs.Acts.{isOpen}
+use Rattle.model.specs.Outlist.{mostPlaces}
+use Rattle.model.specs.Sound.{points, slotOk, countOk, rootOk, flagOk, flagDown, unmarkedAt, openOk, shutOk}
 use Rattle.soundness.specs.declared.Check.{Check}
-use Rattle.soundness.specs.declared.Check.the-variants.{Slot, Field, Root, Flag, Down, Unmarked}
+use Rattle.soundness.specs.declared.Check.the-variants.{Root, Flag, Down, Unmarked}
 
 -- P is 1 to 16, S is 1 to 64, and the length agrees with them
 pub record Shaped (P S : ℕ) (x : Image) : Type 0 where
@@ -20,36 +22,33 @@ pub record Shaped (P S : ℕ) (x : Image) : Type 0 where
   pub wide : S ≤ mostSlots
   pub long : length x ≡ front + stride * (P * S)
 
--- a state is known, and a free slot's payload is 0
-unfoldable pub stateOk : Image → ℕ → Bool
-stateOk x j = both (leb (get x (state j)) 2) (cond (used x j) true (eqb (get x (payload j)) 0))
+-- field number g of the row of all fields holds a foreign reference to i
+abbrev pub pointing : ℕ → Image → ℕ → ℕ → Bool
+pointing S x i g = points S (g / 4) (get x (field (g / 4) (g % 4))) i
 
--- field i of the row of all fields: in a free slot it is 0, else nothing or a slot in use
-unfoldable pub fieldOk : ℕ → ℕ → Image → ℕ → Bool
-fieldOk P S x i = cond (used x (i / 4)) (refOk P S x (field (i / 4) (i % 4))) (eqb (get x (field (i / 4) (i % 4))) 0)
+-- the foreign references of the first f fields are tallied, by the place that they name
+pub record Tallied (S : ℕ) (x : Image) (f : ℕ) (c : List ℕ) : Type 0 where
+  pub long : length c ≡ mostPlaces
+  pub each : (i : ℕ) → i < mostPlaces → getD c i 0 ≡ tally f (pointing S x i)
 
 -- how many indexes a check has
 abbrev pub reach : ℕ → ℕ → Check → ℕ
-reach P S Slot = P * S
-reach P S Field = 4 * (P * S)
 reach P S Root = anchors
 reach P S Flag = mostPartitions
 reach P S Down = mostPartitions
 reach P S Unmarked = P * S
 
 abbrev pub testAt : ℕ → ℕ → Image → Check → ℕ → Bool
-testAt P S x Slot = stateOk x
-testAt P S x Field = fieldOk P S x
 testAt P S x Root = rootOk P S x
 testAt P S x Flag = flagOk P x
 testAt P S x Down = flagDown x
 testAt P S x Unmarked = unmarkedAt x
 
--- what is left of the test where P, S and the length agree, the slots in two rows
+-- what is left of the test where P, S and the length agree
 unfoldable pub restOk : ℕ → ℕ → Image → Bool
 restOk P S x =
     both (leb (get x phase) 1)
-    (both (every (P * S) (stateOk x))
-    (both (every (4 * (P * S)) (fieldOk P S x))
+    (both (every (P * S) (slotOk P S x))
+    (both (every (P * S) (countOk S (P * S) x))
     (both (every anchors (rootOk P S x))
     (both (every mostPartitions (flagOk P x)) (cond (isOpen x) (openOk P S x) (shutOk P S x))))))

@@ -1,21 +1,22 @@
 // Soundness as code: `sound` takes any words of any length and answers true exactly when the model's test does (`isSound`; that the
 // test passes exactly for the paper's conditions is `sound-true` and `sound-back` of the model's proofs/Soundness.antt).
-// One loop (`all`) makes every test that is made at an index, over an enum of checks; the fields of all slots are one row, so each word
-// is read a bounded number of times. P and S are compared before anything is multiplied, and a place is known before its state is read.
+// One pass goes over the slots and tallies, by the place that it names, every reference to another partition; then the counts are compared with
+// the tally. One loop (`all`) makes the other tests, over an enum of checks. Each field and count is read once, a
+// state once more for every reference to it; no pass divides by S.
+// P and S are compared before anything is multiplied, and a place is known before its state is read.
 ghost use mathlib.Core.Path.{_≡_};
-ghost use Prim.Native.Nat.{_*_, _<_, _≤_};
-ghost use lib.ListN.{length};
-ghost use Rattle.loops.specs.Loop.{every};
-ghost use Rattle.kinds.specs.Names.{mostPartitions};
-ghost use Rattle.model.specs.Image.{Key, payload, addr, get};
-ghost use Rattle.model.specs.Sound.{refOk, flagOk, flagDown, unmarkedAt, openOk, shutOk, soundAt, isSound};
-ghost use Rattle.soundness.specs.Checks.{Shaped, stateOk, fieldOk, reach, testAt};
+ghost use Prim.Native.Nat.{_+_, _*_, _<_, _≤_};
+ghost use mathlib.Core.Bool.{true, not};
+ghost use lib.Dec.{eqb};
+ghost use lib.ListN.{length, replicate};
+ghost use Rattle.loops.specs.Loop.{bit, every};
+ghost use Rattle.kinds.specs.Names.{mostPartitions, mostSlots};
+ghost use Rattle.model.specs.Image.{Key, payload, inlist, field, addr, get, partOf};
+ghost use Rattle.model.specs.Sound.{refOk, freeOk, slotOk, countOk, flagOk, flagDown, unmarkedAt, openOk, shutOk, soundAt, isSound};
+ghost use Rattle.soundness.specs.Checks.{Shaped, Tallied, reach, testAt};
 
-// What is tested at every index: of a slot its state and payload, of all slots their fields, the roots, the flags, and with the phase
-// shut that no flag is up and nothing is marked.
+// What is tested at every index beside the slots: the roots, the flags, and with the phase shut that no flag is up and nothing is marked.
 pub enum Check {
-    Slot,
-    Field,
     Root,
     Flag,
     Down,
@@ -46,41 +47,159 @@ fn ref_ok(img: &[u32], p: usize, s: usize, w: u32) -> bool
     true
 }
 
-// The state of place j is known, and a free slot's payload is 0.
-fn slot_ok(img: &[u32], j: usize) -> bool
-    requires { ⌜ addr (payload j) < length (now img) ⌝ }
-    ensures { λ r. ⌜ r ≡ stateOk (now (img .entry)) j ⌝ }
+// 1 where a reference from partition q leads to another, r, else 0. It is added without a branch: own and foreign references come in no order
+// that a processor could foresee.
+fn foreign(q: usize, r: usize) -> u32
+    ensures { λ n. ⌜ (n ≡ bit (not (eqb q r))) × (n ≤ 1) ⌝ }
+{
+    if q == r {
+        return 0;
+    }
+    1
+}
+
+// A field of place j, which is in partition q: it is nothing or names a slot in use, and a foreign reference is tallied. (`ref_ok` spelled out:
+// the tally needs the partition and the place that it computes.)
+fn field(
+    img: &[u32],
+    p: usize,
+    s: usize,
+    q: usize,
+    j: usize,
+    k: usize,
+    counts: &mut [u32; 1024],
+) -> bool
+    requires { ⌜ Shaped p s (now img) ⌝ }
+    requires { ⌜ (j < p * s) × (k < 4) × (partOf s j ≡ q) ⌝ }
+    requires { ⌜ Tallied s (now img) (4 * j + k) (now counts) ⌝ }
+    ensures { λ r. ⌜ (r ≡ refOk p s (now (img .entry)) (field j k)) × (r ≡ true → Tallied s (now (img .entry)) (4 * j + k + 1) (now (counts .exit))) ⌝ }
+{
+    let w = img[image::FRONT + image::STRIDE * j + 2 + k] as usize;
+    if w == 0 {
+        return true;
+    }
+    let v = w - 1;
+    let r = v / kinds::Target::RADIX as usize;
+    if p <= r {
+        return false;
+    }
+    let t = v % kinds::Target::RADIX as usize;
+    if s <= t {
+        return false;
+    }
+    let i = r * s + t;
+    if img[image::FRONT + image::STRIDE * i] == 0 {
+        return false;
+    }
+    counts[i] = counts[i] + foreign(q, r);
+    true
+}
+
+// The four fields of place j.
+fn fields(img: &[u32], p: usize, s: usize, q: usize, j: usize, counts: &mut [u32; 1024]) -> bool
+    requires { ⌜ Shaped p s (now img) ⌝ }
+    requires { ⌜ (j < p * s) × (partOf s j ≡ q) ⌝ }
+    requires { ⌜ Tallied s (now img) (4 * j) (now counts) ⌝ }
+    ensures { λ r. ⌜ (r ≡ every 4 (λ k. refOk p s (now (img .entry)) (field j k))) × (r ≡ true → Tallied s (now (img .entry)) (4 * (j + 1)) (now (counts .exit))) ⌝ }
+{
+    let mut k: usize = 0;
+    while k < 4 {
+        let ok = field(img, p, s, q, j, k, &mut *counts);
+        if !ok {
+            return false;
+        }
+        k += 1;
+    }
+    true
+}
+
+// Payload and fields of a free slot are 0.
+fn free_ok(img: &[u32], j: usize) -> bool
+    requires { ⌜ addr (inlist j) < length (now img) ⌝ }
+    ensures { λ r. ⌜ r ≡ freeOk (now (img .entry)) j ⌝ }
 {
     let at = image::FRONT + image::STRIDE * j;
-    let x = img[at];
+    if img[at + 1] != 0 {
+        return false;
+    }
+    if img[at + 2] != 0 {
+        return false;
+    }
+    if img[at + 3] != 0 {
+        return false;
+    }
+    if img[at + 4] != 0 {
+        return false;
+    }
+    if img[at + 5] != 0 {
+        return false;
+    }
+    true
+}
+
+// Place j, which is in partition q: free it is zeros but for its count, which `counted` compares; in use its state is known and its references name slots in use.
+fn slot(img: &[u32], p: usize, s: usize, q: usize, j: usize, counts: &mut [u32; 1024]) -> bool
+    requires { ⌜ Shaped p s (now img) ⌝ }
+    requires { ⌜ (j < p * s) × (partOf s j ≡ q) ⌝ }
+    requires { ⌜ Tallied s (now img) (4 * j) (now counts) ⌝ }
+    ensures { λ r. ⌜ (r ≡ slotOk p s (now (img .entry)) j) × (r ≡ true → Tallied s (now (img .entry)) (4 * (j + 1)) (now (counts .exit))) ⌝ }
+{
+    let x = img[image::FRONT + image::STRIDE * j];
+    if x == 0 {
+        return free_ok(img, j);
+    }
     if 2 < x {
         return false;
     }
-    if x != 0 {
-        return true;
-    }
-    if img[at + 1] == 0 {
-        return true;
-    }
-    false
+    fields(img, p, s, q, j, counts)
 }
 
-// Field i % 4 of place i / 4: in a free slot it is 0, else nothing or a slot in use.
-fn field_ok(img: &[u32], p: usize, s: usize, i: usize) -> bool
-    requires { ⌜ Shaped p s (now img) ⌝ }
-    requires { ⌜ i < 4 * (p * s) ⌝ }
-    ensures { λ r. ⌜ r ≡ fieldOk p s (now (img .entry)) i ⌝ }
+// The partition of place j, which is in q or the first after q.
+fn partition_at(q: usize, s: usize, j: usize) -> usize
+    requires { ⌜ (0 < s) × (s ≤ mostSlots) × (q * s ≤ j) × (j ≤ q * s + s) × (j < 1024) ⌝ }
+    ensures { λ r. ⌜ (r ≡ partOf s j) × (r * s ≤ j) × (j < r * s + s) ⌝ }
 {
-    let j = i / 4;
-    let at = image::FRONT + image::STRIDE * j;
-    let w = img[at + 2 + i % 4];
-    if img[at] == 0 {
-        if w == 0 {
-            return true;
-        }
-        return false;
+    if j < q * s + s {
+        return q;
     }
-    ref_ok(img, p, s, w)
+    q + 1
+}
+
+// All places, one partition after the other: each slot is tested, and foreign references are tallied.
+fn slots(img: &[u32], p: usize, s: usize, counts: &mut [u32; 1024]) -> bool
+    requires { ⌜ Shaped p s (now img) ⌝ }
+    requires { ⌜ now counts ≡ replicate 1024 0 ⌝ }
+    ensures { λ r. ⌜ (r ≡ every (p * s) (slotOk p s (now (img .entry)))) × (r ≡ true → Tallied s (now (img .entry)) (4 * (p * s)) (now (counts .exit))) ⌝ }
+{
+    let n = p * s;
+    let mut q: usize = 0;
+    let mut j: usize = 0;
+    while j < n {
+        q = partition_at(q, s, j);
+        let ok = slot(img, p, s, q, j, &mut *counts);
+        if !ok {
+            return false;
+        }
+        j += 1;
+    }
+    true
+}
+
+// The counts of all places are what was tallied.
+fn counted(img: &[u32], p: usize, s: usize, counts: &[u32; 1024]) -> bool
+    requires { ⌜ Shaped p s (now img) ⌝ }
+    requires { ⌜ Tallied s (now img) (4 * (p * s)) (now counts) ⌝ }
+    ensures { λ r. ⌜ r ≡ every (p * s) (countOk s (p * s) (now (img .entry))) ⌝ }
+{
+    let end = p * s;
+    let mut j: usize = 0;
+    while j < end {
+        if img[image::FRONT + image::STRIDE * j + image::INLIST] != counts[j] {
+            return false;
+        }
+        j += 1;
+    }
+    true
 }
 
 // A flag is 0 or 1, and 0 from partition P on.
@@ -130,8 +249,6 @@ fn test(img: &[u32], p: usize, s: usize, k: Check, i: usize) -> bool
     ensures { λ r. ⌜ r ≡ testAt p s (now (img .entry)) k i ⌝ }
 {
     match k {
-        Check::Slot => slot_ok(img, i),
-        Check::Field => field_ok(img, p, s, i),
         Check::Root => ref_ok(img, p, s, img[image::ROOT + i]),
         Check::Flag => flag_ok(img, p, i),
         Check::Down => flag_down(img, i),
@@ -189,7 +306,7 @@ fn shut_ok(img: &[u32], p: usize, s: usize) -> bool
     all(img, p, s, Check::Unmarked, p * s)
 }
 
-// An image of the right length is sound: the phase, the slots and their fields, the roots, the flags, and what the phase asks.
+// An image of the right length is sound: the phase, the slots, their counts, the roots, the flags, and what the phase asks.
 fn sound_at(img: &[u32], p: usize, s: usize) -> bool
     requires { ⌜ Shaped p s (now img) ⌝ }
     ensures { λ r. ⌜ r ≡ soundAt p s (now (img .entry)) ⌝ }
@@ -198,13 +315,13 @@ fn sound_at(img: &[u32], p: usize, s: usize) -> bool
     if 1 < phase {
         return false;
     }
-    let n = p * s;
-    let slots = all(img, p, s, Check::Slot, n);
-    if !slots {
+    let mut counts = image::zeros();
+    let ok = slots(img, p, s, &mut counts);
+    if !ok {
         return false;
     }
-    let fields = all(img, p, s, Check::Field, 4 * n);
-    if !fields {
+    let right = counted(img, p, s, &counts);
+    if !right {
         return false;
     }
     let roots = all(img, p, s, Check::Root, image::ANCHORS);

@@ -77,6 +77,10 @@ fn show(l: Line) {
             number(p.0);
         }
         Line::Close => say(b" close"),
+        Line::Local(p) => {
+            say(b" local");
+            number(p.0);
+        }
         Line::Bad => say(b" bad"),
     }
     say(b"\n");

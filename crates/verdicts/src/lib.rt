@@ -1,12 +1,13 @@
-// The verdicts on open, trace and close. Each judge leaves the image alone and is proved equal to the model's (model/specs/Judge.antt). Their
-// loops are one search for the first that meets a test (specs/Searches.antt); what a search comes to is proved in proofs/Searches.antt.
+// The verdicts on open, trace, close, local and outlist. Each judge leaves the image alone and is proved equal to the model's
+// (model/specs/Judge.antt). Their loops are one search for the first that meets a test (specs/Searches.antt); what a search comes to is
+// proved in proofs/Searches.antt.
 // P and S are handed in as p and s; `Within` keeps every reference in range.
 ghost use Prim.Native.Nat.{_*_, _<_, _≤_};
 ghost use mathlib.Core.Path.{_≡_};
 ghost use mathlib.Core.Logic.{_≢_};
 ghost use Rattle.model.specs.Image.{placeOf};
-ghost use Rattle.model.specs.Acts.{opening, closing, trace};
-ghost use Rattle.model.specs.Judge.{judge, rooted, led};
+ghost use Rattle.model.specs.Acts.{opening, closing, trace, local};
+ghost use Rattle.model.specs.Judge.{judge, judgeOutlist, rooted, led};
 ghost use Rattle.loops.specs.Loop.{first};
 ghost use Rattle.image.specs.Within.{Within};
 ghost use Rattle.verdicts.specs.Searches.{astray, meets, reach};
@@ -177,6 +178,31 @@ pub fn judge_close(img: &[u32], p: usize, s: usize) -> kinds::Verdict
     let l = led(img, p, s);
     if !l {
         return kinds::Verdict::refuse(kinds::Refusal::UNMARKED, 0);
+    }
+    kinds::Verdict::Accepted
+}
+
+// A local collection of partition t: 7, 12.
+pub fn judge_local(img: &[u32], p: usize, s: usize, t: kinds::Partition) -> kinds::Verdict
+    requires { ⌜ Within p s (now img) ⌝ }
+    ensures { λ r. ⌜ r ≡ judge p s (now (img .entry)) (local (t .0)) ⌝ }
+{
+    if p <= t.0 as usize { // 7 before 12
+        return kinds::Verdict::refuse(kinds::Refusal::RANGE, 0);
+    }
+    let r = rooted(img, p, s);
+    if !r {
+        return kinds::Verdict::refuse(kinds::Refusal::ROOTLESS, 0);
+    }
+    kinds::Verdict::Accepted
+}
+
+// The outlist of partition t: 7.
+pub fn judge_outlist(p: usize, t: kinds::Partition) -> kinds::Verdict
+    ensures { λ r. ⌜ r ≡ judgeOutlist p (t .0) ⌝ }
+{
+    if p <= t.0 as usize {
+        return kinds::Verdict::refuse(kinds::Refusal::RANGE, 0);
     }
     kinds::Verdict::Accepted
 }

@@ -1,4 +1,6 @@
 -- `collector::clear` meets its contract. Assumes nothing.
+use Rattle.collector.proofs.Clears.{settled, let-go}
+use Rattle.image.specs.Within.{Within}
 use Rattle.model.specs.Acts.{clear}
 use Rattle.model.specs.Image.{put, addr, field, release}
 use Rattle.loops.proofs.Turns.{each-none, each-more, each-done}
@@ -12,10 +14,10 @@ use Rattle.collector.proofs.clear.Statement.{statement}
 use Rattle.collector.proofs.clear.Tie as tie
 
 abbrev Inv-loop : tie.InvT-loop
-Inv-loop img₀ s j k₀ img k = (k ≤ 4) × (img ≡ each k (λ x i. release s x (field j i)) img₀) × (length img ≡ length img₀)
+Inv-loop img₀ p s j k₀ img k = (k ≤ 4) × (img ≡ each k (λ x i. release s x (field j i)) img₀) × (length img ≡ length img₀) × Within p s img
 
 abbrev μ-loop : tie.MeasureT-loop
-μ-loop img₀ s j k₀ img k = 4 - k
+μ-loop img₀ p s j k₀ img k = 4 - k
 
 mul-img : tie.Need-mul-img Inv-loop μ-loop
 mul-img c = search needs
@@ -45,13 +47,11 @@ slice-write-img-2 : tie.Need-slice-write-img-2 Inv-loop μ-loop
 slice-write-img-2 c = simp length-set (omega arith)
 
 loop-holds : tie.Need-loop-holds Inv-loop μ-loop
-loop-holds c = (search needs, each-none _ _, refl)
+unfolding put addr
+loop-holds c = (search needs, each-none _ _, refl, settled (c .before .pre .0) _ _ _)
 
 release-field-requires : tie.Need-release-field-requires Inv-loop μ-loop
-unfolding addr
-release-field-requires c κs =
-    let e : length (c .before .before .loop .img) ≡ length (c .before .before .before .before .args .img .now) = simp length-set at (c .before .before .loop .inv .2) in
-    omega arith
+release-field-requires c κs = (c .before .before .loop .inv .3, (c .before .before .before .before .pre .1, omega arith))
 
 add-k : tie.Need-add-k Inv-loop μ-loop
 add-k c = search needs
@@ -66,6 +66,7 @@ loop-again c =
       search needs,
       c .before .before .release-field .ensures ∙ each-more (λ x i. release (a .s) x (field (a .j) i)) _ (l .k) (l .img) (l .inv .1),
       c .before .before .release-field .kept .0 ∙ l .inv .2,
+      let-go (l .inv .3) (a .j) _ (c .before .before .before .before .before .before .before .pre .1) (omega (arith, c .before .before .before .before .loop-test .taken)) _ (c .before .before .release-field .ensures),
     )
 
 same-length : tie.Need-same-length Inv-loop μ-loop

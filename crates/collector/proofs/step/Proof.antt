@@ -50,7 +50,7 @@ enum-told-3 : tie.Need-enum-told-3
 enum-told-3 c = search needs
 
 settle-requires : tie.Need-settle-requires
-settle-requires c κs = omega (arith, in-slots (c .before))
+settle-requires c κs = (c .before .before .before .before .pre .0, in-slots (c .before))
 
 enum-known-what : tie.Need-enum-known-what
 enum-known-what c = search needs

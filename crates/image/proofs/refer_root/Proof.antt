@@ -1,5 +1,5 @@
 -- `image::refer_root` meets its contract. Assumes nothing.
-use Rattle.model.specs.Image.{put, addr, refer}
+use Rattle.model.specs.Image.{put, addr, recount, refer}
 use mathlib.Core.Path.{refl}
 use borrow.Author.Needs.{needs}
 use Rattle.image.proofs.refer_root.Statement.{statement}
@@ -21,7 +21,7 @@ same-length : tie.Need-same-length
 same-length c = search needs
 
 returns : tie.Need-returns
-unfolding refer put addr
+unfolding refer recount put addr
 returns c = refl
 
 pub refer-root-spec : {M : Type 1} → statement M

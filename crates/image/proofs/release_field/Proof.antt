@@ -1,42 +1,57 @@
 -- `image::release_field` meets its contract. Assumes nothing.
-use Rattle.model.specs.Image.{put, addr, refer, release}
-use mathlib.Core.Path.{refl}
+use Rattle.image.proofs.Counts.{loses, released}
+use Rattle.model.specs.Image.{get, put, addr}
 use borrow.Author.Needs.{needs}
 use Rattle.image.proofs.release_field.Statement.{statement}
 use Rattle.image.proofs.release_field.Tie as tie
 
+mul-at : tie.Need-mul-at
+mul-at c = search needs
+
+add-at : tie.Need-add-at
+add-at c = search needs
+
+add-at-2 : tie.Need-add-at-2
+add-at-2 c = search needs
+
+add-at-3 : tie.Need-add-at-3
+add-at-3 c = search needs
+
+mul-old : tie.Need-mul-old
+mul-old c = search needs
+
+slice-read-old : tie.Need-slice-read-old
+slice-read-old c = search needs
+
+lose-requires : tie.Need-lose-requires
+unfolding get addr
+lose-requires c κs = loses (c .before .before .before .pre .0) _ _ (c .before .before .before .pre .1 .0) (c .before .before .before .pre .1 .1)
+
 mul-img : tie.Need-mul-img
-unfolding addr
 mul-img c = search needs
 
-add-img : tie.Need-add-img
-unfolding addr
-add-img c = search needs
-
-add-img-2 : tie.Need-add-img-2
-unfolding addr
-add-img-2 c = search needs
-
-add-img-3 : tie.Need-add-img-3
-unfolding addr
-add-img-3 c = search needs
-
-mul-img-2 : tie.Need-mul-img-2
-unfolding addr
-mul-img-2 c = search needs
-
 slice-write-img : tie.Need-slice-write-img
-unfolding addr
 slice-write-img c = search needs
 
 same-length : tie.Need-same-length
 same-length c = search needs
 
 returns : tie.Need-returns
-unfolding refer release put addr
-returns c = refl
+unfolding get put addr
+returns c = released _ _ _ _ _ (c .before .before .lose .ensures)
 
 pub release-field-spec : {M : Type 1} → statement M
 release-field-spec =
     tie.close
-    (tie.spec mul-img add-img add-img-2 add-img-3 mul-img-2 slice-write-img same-length returns)
+    (tie.spec
+    mul-at
+    add-at
+    add-at-2
+    add-at-3
+    mul-old
+    slice-read-old
+    lose-requires
+    mul-img
+    slice-write-img
+    same-length
+    returns)

@@ -10,91 +10,66 @@ use Rattle.soundness.proofs.test.Tie as tie
 enum-told : tie.Need-enum-told
 enum-told c = search needs
 
-slot-ok-requires : tie.Need-slot-ok-requires
-unfolding addr
-slot-ok-requires c κs = omega (arith, rw (c .enum-told .given .1) at (c .before .before .before .pre .1))
-
-enum-told-2 : tie.Need-enum-told-2
-enum-told-2 c = search needs
-
-field-ok-requires : tie.Need-field-ok-requires
-field-ok-requires c κs = (c .before .before .before .pre .0, rw (c .enum-told2 .given .1) at (c .before .before .before .pre .1))
-
-enum-told-3 : tie.Need-enum-told-3
-enum-told-3 c = search needs
-
 add-ref-ok : tie.Need-add-ref-ok
-add-ref-ok c = omega (arith, rw (c .enum-told3 .given .1) at (c .before .before .before .pre .1))
+add-ref-ok c = omega (arith, rw (c .enum-told .given .1) at (c .before .before .before .pre .1))
 
 mul-ref-ok : tie.Need-mul-ref-ok
-mul-ref-ok c = omega (arith, rw (c .enum-told3 .given .1) at (c .before .before .before .pre .1))
+mul-ref-ok c = omega (arith, rw (c .enum-told .given .1) at (c .before .before .before .pre .1))
 
 shared-slice-read-ref-ok : tie.Need-shared-slice-read-ref-ok
-shared-slice-read-ref-ok c = omega (arith, rw (c .before .enum-told3 .given .1) at (c .before .before .before .before .pre .1))
+shared-slice-read-ref-ok c = omega (arith, rw (c .before .enum-told .given .1) at (c .before .before .before .before .pre .1))
 
 ref-ok-requires : tie.Need-ref-ok-requires
 ref-ok-requires c κs = search needs
 
+enum-told-2 : tie.Need-enum-told-2
+enum-told-2 c = search needs
+
+flag-ok-requires : tie.Need-flag-ok-requires
+flag-ok-requires c κs = (rw (c .enum-told2 .given .1) at (c .before .before .before .pre .1), omega arith)
+
+enum-told-3 : tie.Need-enum-told-3
+enum-told-3 c = search needs
+
+flag-down-requires : tie.Need-flag-down-requires
+flag-down-requires c κs = (rw (c .enum-told3 .given .1) at (c .before .before .before .pre .1), omega arith)
+
 enum-told-4 : tie.Need-enum-told-4
 enum-told-4 c = search needs
 
-flag-ok-requires : tie.Need-flag-ok-requires
-flag-ok-requires c κs = (rw (c .enum-told4 .given .1) at (c .before .before .before .pre .1), omega arith)
-
-enum-told-5 : tie.Need-enum-told-5
-enum-told-5 c = search needs
-
-flag-down-requires : tie.Need-flag-down-requires
-flag-down-requires c κs = (rw (c .enum-told5 .given .1) at (c .before .before .before .pre .1), omega arith)
-
-enum-told-6 : tie.Need-enum-told-6
-enum-told-6 c = search needs
-
 unmarked-requires : tie.Need-unmarked-requires
 unfolding addr
-unmarked-requires c κs = omega (arith, rw (c .enum-told6 .given .1) at (c .before .before .before .pre .1))
+unmarked-requires c κs = omega (arith, rw (c .enum-told4 .given .1) at (c .before .before .before .pre .1))
 
 returns : tie.Need-returns
-returns c = rw (c .before .enum-told .given .1) (c .slot-ok .ensures)
+unfolding rootOk get addr
+returns c = rw (c .before .before .enum-told .given .1) (c .ref-ok .ensures (root (c .before .before .before .before .before .args .i)) refl)
 
 returns-2 : tie.Need-returns-2
-returns-2 c = rw (c .before .enum-told2 .given .1) (c .field-ok .ensures)
+returns-2 c = rw (c .before .enum-told2 .given .1) (c .flag-ok .ensures)
 
 returns-3 : tie.Need-returns-3
-unfolding rootOk get addr
-returns-3 c = rw (c .before .before .enum-told3 .given .1) (c .ref-ok .ensures (root (c .before .before .before .before .before .args .i)) refl)
+returns-3 c = rw (c .before .enum-told3 .given .1) (c .flag-down .ensures)
 
 returns-4 : tie.Need-returns-4
-returns-4 c = rw (c .before .enum-told4 .given .1) (c .flag-ok .ensures)
-
-returns-5 : tie.Need-returns-5
-returns-5 c = rw (c .before .enum-told5 .given .1) (c .flag-down .ensures)
-
-returns-6 : tie.Need-returns-6
-returns-6 c = rw (c .before .enum-told6 .given .1) (c .unmarked .ensures)
+returns-4 c = rw (c .before .enum-told4 .given .1) (c .unmarked .ensures)
 
 pub test-spec : {M : Type 1} → statement M
 test-spec =
     tie.close
     (tie.spec
     enum-told
-    slot-ok-requires
-    enum-told-2
-    field-ok-requires
-    enum-told-3
     add-ref-ok
     mul-ref-ok
     shared-slice-read-ref-ok
     ref-ok-requires
-    enum-told-4
+    enum-told-2
     flag-ok-requires
-    enum-told-5
+    enum-told-3
     flag-down-requires
-    enum-told-6
+    enum-told-4
     unmarked-requires
     returns
     returns-2
     returns-3
-    returns-4
-    returns-5
-    returns-6)
+    returns-4)

@@ -17,7 +17,7 @@ place-of-requires : tie.Need-place-of-requires
 place-of-requires c κs = search needs
 
 -- the place is one of the image's
-place-in : (c : tie.After-place-of) → 37 + 6 * c .place-of .result < length (c .before .before .before .args .img .now)
+place-in : (c : tie.After-place-of) → 37 + 7 * c .place-of .result < length (c .before .before .before .args .img .now)
 place-in c =
     let l : placeOf (c .before .before .before .args .s) (c .before .before .before .args .w) < c .before .before .before .args .p * c .before .before .before .args .s =
     c .before .before .before .pre .1 (c .before .if1 .left) in

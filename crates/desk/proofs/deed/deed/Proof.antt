@@ -1,7 +1,7 @@
 -- `desk::deed::deed` meets its contract. Assumes nothing.
 use mathlib.Core.Path.{ap}
 use Rattle.catalogue.specs.Call.{outcome}
-use Rattle.desk.specs.declared.Said.the-variants.{Done, Closed}
+use Rattle.desk.specs.declared.Said.the-variants.{Done, Closed, Freed}
 use Rattle.desk.specs.Desk.{Put, answered}
 use borrow.Author.Needs.{needs}
 use Rattle.desk.proofs.deed.deed.Statement.{statement}
@@ -46,11 +46,17 @@ close-requires c κs = search needs
 enum-known-x-7 : tie.Need-enum-known-x-7
 enum-known-x-7 c = search needs
 
-recover-requires : tie.Need-recover-requires
-recover-requires c κs = search needs
+local-requires : tie.Need-local-requires
+local-requires c κs = search needs
 
 enum-known-x-8 : tie.Need-enum-known-x-8
 enum-known-x-8 c = search needs
+
+recover-requires : tie.Need-recover-requires
+recover-requires c κs = search needs
+
+enum-known-x-9 : tie.Need-enum-known-x-9
+enum-known-x-9 c = search needs
 
 seen-requires : tie.Need-seen-requires
 seen-requires c κs = search needs
@@ -113,10 +119,19 @@ same-length-13 : tie.Need-same-length-13
 same-length-13 c = search needs
 
 returns-7 : tie.Need-returns-7
-returns-7 c = rw (c .before .before .before .before .before .before .x7 .given .1) (c .before .before .recover .ensures)
+returns-7 c = rw (c .before .before .before .before .before .before .before .before .x7 .given .1) (ap (answered Freed) (c .before .before .before .before .local .ensures))
+
+same-length-14 : tie.Need-same-length-14
+same-length-14 c = search needs
+
+same-length-15 : tie.Need-same-length-15
+same-length-15 c = search needs
 
 returns-8 : tie.Need-returns-8
-returns-8 c = rw (c .before .before .x8 .given .1, c .seen .ensures)
+returns-8 c = rw (c .before .before .before .before .before .before .x8 .given .1) (c .before .before .recover .ensures)
+
+returns-9 : tie.Need-returns-9
+returns-9 c = rw (c .before .before .x9 .given .1, c .seen .ensures)
 
 pub deed-spec : {M : Type 1} → statement M
 deed-spec =
@@ -135,8 +150,10 @@ deed-spec =
     enum-known-x-6
     close-requires
     enum-known-x-7
-    recover-requires
+    local-requires
     enum-known-x-8
+    recover-requires
+    enum-known-x-9
     seen-requires
     same-length
     returns
@@ -158,4 +175,7 @@ deed-spec =
     same-length-12
     same-length-13
     returns-7
-    returns-8)
+    same-length-14
+    same-length-15
+    returns-8
+    returns-9)

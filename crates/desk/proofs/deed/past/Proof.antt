@@ -15,11 +15,14 @@ enum-told-3 c = search needs
 enum-told-4 : tie.Need-enum-told-4
 enum-told-4 c = search needs
 
+enum-told-5 : tie.Need-enum-told-5
+enum-told-5 c = search needs
+
 enum-known-l : tie.Need-enum-known-l
 enum-known-l c = search needs
 
-enum-told-5 : tie.Need-enum-told-5
-enum-told-5 c = search needs
+enum-told-6 : tie.Need-enum-told-6
+enum-told-6 c = search needs
 
 returns : tie.Need-returns
 returns c = search needs
@@ -34,10 +37,13 @@ returns-4 : tie.Need-returns-4
 returns-4 c = search needs
 
 returns-5 : tie.Need-returns-5
-returns-5 c = rw (c .before .l .given .1)
+returns-5 c = search needs
 
 returns-6 : tie.Need-returns-6
-returns-6 c = search needs
+returns-6 c = rw (c .before .l .given .1)
+
+returns-7 : tie.Need-returns-7
+returns-7 c = search needs
 
 pub past-spec : {M : Type 1} → statement M
 past-spec =
@@ -47,11 +53,13 @@ past-spec =
     enum-told-2
     enum-told-3
     enum-told-4
-    enum-known-l
     enum-told-5
+    enum-known-l
+    enum-told-6
     returns
     returns-2
     returns-3
     returns-4
     returns-5
-    returns-6)
+    returns-6
+    returns-7)

@@ -31,6 +31,9 @@ enum-told-5 c = search needs
 enum-told-6 : tie.Need-enum-told-6
 enum-told-6 c = search needs
 
+enum-told-7 : tie.Need-enum-told-7
+enum-told-7 c = search needs
+
 returns : tie.Need-returns
 returns c = number-found _ (λ i. c .before .before .before .before .before .shared-slice-known .given i .fits) _ _ _ (c .before .before .before .before .scanned .ensures) (c .before .before .before .finish .ensures) (c .before .v .given .1)
 
@@ -52,6 +55,9 @@ returns-6 c = number-found _ (λ i. c .before .before .before .before .shared-sl
 returns-7 : tie.Need-returns-7
 returns-7 c = number-found _ (λ i. c .before .before .before .before .shared-slice-known .given i .fits) _ _ _ (c .before .before .before .scanned .ensures) (c .before .before .finish .ensures) (c .enum-told6 .given .1)
 
+returns-8 : tie.Need-returns-8
+returns-8 c = number-found _ (λ i. c .before .before .before .before .shared-slice-known .given i .fits) _ _ _ (c .before .before .before .scanned .ensures) (c .before .before .finish .ensures) (c .enum-told7 .given .1)
+
 pub number-spec : {M : Type 1} → statement M
 number-spec =
     tie.close
@@ -65,10 +71,12 @@ number-spec =
     enum-told-4
     enum-told-5
     enum-told-6
+    enum-told-7
     returns
     returns-2
     returns-3
     returns-4
     returns-5
     returns-6
-    returns-7)
+    returns-7
+    returns-8)

@@ -2,9 +2,9 @@
 use Prim.Native.Nat.{ℕ}
 use mathlib.Core.Path.{refl, sym}
 use mathlib.Core.List.{List, [], _∷_}
-use Rattle.lines.specs.Words.{code, isIn, newText, setText, clrText, valText, rootText, unrootText, openText, traceText, closeText}
+use Rattle.lines.specs.Words.{code, isIn, newText, setText, clrText, valText, rootText, unrootText, openText, traceText, closeText, localText}
 use Rattle.lines.proofs.Table.{in-arms}
-use Rattle.scripts.specs.Table.{rows, takes, imageText, wordText, bufferText, formatText, commitText, readText, askText, recoverText, digestText, showText, logText, helpText}
+use Rattle.scripts.specs.Table.{rows, takes, imageText, wordText, bufferText, formatText, commitText, readText, askText, outlistText, recoverText, digestText, showText, logText, helpText}
 use Rattle.scripts.proofs.Rows.{keys, takes-none, takes-one}
 use Rattle.scripts.proofs.table.takes.Statement.{statement}
 use Rattle.scripts.proofs.table.takes.Tie as tie
@@ -21,11 +21,11 @@ arm0 = coded (helpText ∷ showText ∷ digestText ∷ [])
 
 abbrev arm1 : List ℕ
 unfolding code
-arm1 = coded (logText ∷ openText ∷ closeText ∷ imageText ∷ bufferText ∷ commitText ∷ unrootText ∷ recoverText ∷ [])
+arm1 = coded (logText ∷ openText ∷ closeText ∷ imageText ∷ bufferText ∷ commitText ∷ unrootText ∷ outlistText ∷ recoverText ∷ [])
 
 abbrev arm2 : List ℕ
 unfolding code
-arm2 = coded (askText ∷ readText ∷ wordText ∷ traceText ∷ [])
+arm2 = coded (askText ∷ readText ∷ wordText ∷ localText ∷ traceText ∷ [])
 
 abbrev arm3 : List ℕ
 unfolding code

@@ -28,6 +28,9 @@ enum-told-5 c = search needs
 enum-told-6 : tie.Need-enum-told-6
 enum-told-6 c = search needs
 
+enum-told-7 : tie.Need-enum-told-7
+enum-told-7 c = search needs
+
 returns : tie.Need-returns
 unfolding operationOf
 returns c = rw (← c .before .before .before .finish .ensures, c .before .o .given .1)
@@ -56,6 +59,10 @@ returns-7 : tie.Need-returns-7
 unfolding operationOf
 returns-7 c = rw (← c .before .before .finish .ensures, c .enum-told6 .given .1)
 
+returns-8 : tie.Need-returns-8
+unfolding operationOf
+returns-8 c = rw (← c .before .before .finish .ensures, c .enum-told7 .given .1)
+
 pub operation-spec : {M : Type 1} → statement M
 operation-spec =
     tie.close
@@ -68,10 +75,12 @@ operation-spec =
     enum-told-4
     enum-told-5
     enum-told-6
+    enum-told-7
     returns
     returns-2
     returns-3
     returns-4
     returns-5
     returns-6
-    returns-7)
+    returns-7
+    returns-8)

@@ -1,0 +1,56 @@
+-- `heidrunok::heidrunok_local` meets its contract. Assumes nothing.
+use mathlib.Core.Path.{sym, ap, _∙_}
+use Rattle.catalogue.specs.Answers.{saidFreeing}
+use Rattle.heidrunok.proofs.Faces.{seen-of, yield-told}
+use borrow.Author.Needs.{needs}
+use Rattle.heidrunok.proofs.heidrunok_local.Statement.{statement}
+use Rattle.heidrunok.proofs.heidrunok_local.Tie as tie
+
+local-requires : tie.Need-local-requires
+local-requires c κs = search needs
+
+enum-known-n : tie.Need-enum-known-n
+enum-known-n c = search needs
+
+tell-requires : tie.Need-tell-requires
+tell-requires c κs = search needs
+
+same-length : tie.Need-same-length
+same-length c = search needs
+
+same-length-2 : tie.Need-same-length-2
+same-length-2 c = search needs
+
+returns : tie.Need-returns
+returns c = seen-of saidFreeing _ _ _ _ _ (c .before .before .before .before .before .before .before .before .before .before .local .ensures) (yield-told _ _ _ _ _ (c .tell .ensures) ∙ ap saidFreeing (sym (c .before .before .before .before .n .given .1)))
+
+enum-known-r : tie.Need-enum-known-r
+enum-known-r c = search needs
+
+tell-requires-2 : tie.Need-tell-requires-2
+tell-requires-2 c κs = search needs
+
+same-length-3 : tie.Need-same-length-3
+same-length-3 c = search needs
+
+same-length-4 : tie.Need-same-length-4
+same-length-4 c = search needs
+
+returns-2 : tie.Need-returns-2
+returns-2 c = seen-of saidFreeing _ _ _ _ _ (c .before .before .before .before .before .before .before .before .before .before .local .ensures) (yield-told _ _ _ _ _ (c .tell2 .ensures) ∙ ap saidFreeing (sym (c .before .before .before .before .r .given .1)))
+
+pub heidrunok-local-spec : {M : Type 1} → statement M
+heidrunok-local-spec =
+    tie.close
+    (tie.spec
+    local-requires
+    enum-known-n
+    tell-requires
+    same-length
+    same-length-2
+    returns
+    enum-known-r
+    tell-requires-2
+    same-length-3
+    same-length-4
+    returns-2)

@@ -1,0 +1,5 @@
+pub mod Noting
+pub mod Leading
+pub mod Freeing
+pub mod Outing
+pub mod Naming

@@ -1,0 +1,30 @@
+-- The outlist while its names are put down: what the code of the list asks.
+use Prim.Native.Nat.{ℕ, _*_, _≤_, _<_}
+use mathlib.Core.Path.{_≡_}
+use mathlib.Core.Bool.{true}
+use mathlib.Core.List.{List}
+use lib.ListN.{length}
+use Rattle.loops.specs.Loop.{tally}
+use Rattle.kinds.specs.Names.{mostSlots}
+use Rattle.kinds.specs.declared.Outlist.{Outlist}
+use Rattle.model.specs.Questions.{Bits, hasBit}
+use Rattle.model.specs.Outlist.{mostPlaces}
+
+abbrev pub nameState : ℕ → List ℕ → Outlist
+nameState n names = record { number = n; names = names }
+
+-- places in range, and room for the name of each that is marked
+pub record Gathers (P S : ℕ) (bits : Bits) : Type 0 where
+  pub some-slot : 0 < S
+  pub slots-most : S ≤ mostSlots
+  pub fit : P * S ≤ mostPlaces
+  pub wide : length bits ≡ mostPlaces
+  pub few : tally mostPlaces (hasBit bits) ≤ 256
+
+-- the same of one place
+pub record Placed (S : ℕ) (bits : Bits) (i : ℕ) (names : List ℕ) (n : ℕ) : Type 0 where
+  pub some-slot : 0 < S
+  pub place : i < mostPlaces
+  pub wide : length bits ≡ mostPlaces
+  pub long : length names ≡ 256
+  pub room : hasBit bits i ≡ true → n < 256
