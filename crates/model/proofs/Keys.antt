@@ -1,5 +1,5 @@
--- Keys and their words: which keys are in an image, when two differ, and the laws of get, put, refer and release. Above, only Counting
--- opens `refer` and `release`, and SoundnessActs and Answers `get`.
+-- Keys and their words: which keys are in an image, when two differ, and the laws of get, put, refer and release. Above, Counting
+-- alone opens `refer` and `release`, and SoundnessActs `get` at one place, but for Answers, whose rows compute and open everything.
 -- Assumes nothing.
 use Prim.Native.Nat.{ℕ, zero, suc, _+_, _*_, _-_, _/_, _%_, _≤_, _<_}
 use mathlib.Core.Path.{_≡_, refl, sym, ap, _∙_}
