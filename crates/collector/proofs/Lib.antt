@@ -1,2 +1,5 @@
 pub mod Clears
 pub mod Sweeps
+pub mod Marking
+pub mod Listing
+pub mod Walking

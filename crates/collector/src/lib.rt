@@ -1,24 +1,25 @@
-// Open, trace and close as code: each act changes the image as the model's definition of it says (model/specs/Acts.antt). Their loops are one
-// sweep (specs/Sweeps.antt); what a sweep comes to is proved in proofs/Sweeps.antt. That an act is allowed is judged in crate verdicts.
+// Open, trace and close as code: each act changes the image as the model's definition of it says (model/specs/Acts.antt). The loops of open and
+// close are one sweep (specs/Sweeps.antt, proofs/Sweeps.antt). A trace visits its partition's objects by a list (specs/Lists.antt), each once;
+// that this comes to what the model's passes come to is proved in proofs/Walking.antt. That an act is allowed is judged in crate verdicts.
 // P and S are handed in as p and s; `Within` keeps every reference in range.
 ghost use Prim.Native.Nat.{ℕ, _*_, _+_, _<_, _≤_};
 ghost use mathlib.Core.Path.{_≡_};
-ghost use mathlib.Core.Bool.{false};
+ghost use mathlib.Core.Logic.{_≢_};
 ghost use lib.ListN.{length};
-ghost use Rattle.kinds.specs.Names.{fields};
-ghost use Rattle.model.specs.Image.{count, get, front, stride};
-ghost use Rattle.model.specs.Acts.{unmarked, clear, settle, openUp, inside, traceOne, closeUp};
+ghost use Rattle.kinds.specs.Names.{mostSlots};
+ghost use Rattle.model.specs.Image.{count, get, placeOf, front, stride};
+ghost use Rattle.model.specs.Acts.{unmarked, markWord, clear, settle, openUp, inside, outside, traceOne, closeUp};
+ghost use Rattle.model.specs.Walk.{Longer};
 ghost use Rattle.loops.specs.Loop.{each};
 ghost use Rattle.image.specs.Within.{Within};
-ghost use Rattle.collector.specs.Sweeps.{wanted, passOver, followAt, stepOf, Reaches, closedOf};
+ghost use Rattle.collector.specs.Sweeps.{stepOf, Reaches, closedOf};
+ghost use Rattle.collector.specs.Lists.{Listed, markFields};
 
-// What a sweep does at each number: all partitions become not clean, what roots name is marked, places are settled, or a partition's
-// fields are followed, to targets within it or outside.
+// What a sweep does at each number: all partitions become not clean, what roots name is marked, or places are settled.
 pub enum Sweep {
     Flags,
     Roots,
     Slots,
-    Fields(kinds::Partition, bool),
 }
 
 // What close answers: the traces counted, and how many objects it freed.
@@ -77,114 +78,128 @@ fn settle(img: &mut [u32], p: usize, s: usize, j: usize)
     }
 }
 
-// A pass over partition t is to mark place j.
-fn is_wanted(s: usize, t: usize, within: bool, j: usize) -> bool
-    requires { ⌜ 0 < s ⌝ }
-    ensures { λ r. ⌜ r ≡ wanted s t within j ⌝ }
-{
-    if within {
-        if j / s == t {
-            return true;
-        }
-        return false;
-    }
-    if j / s == t {
-        return false;
-    }
-    true
-}
-
-// The i-th step of a pass over partition t: field i % 4 of slot i / 4. Where it answers false, the image is as before.
-fn follow(img: &mut [u32], p: usize, s: usize, t: kinds::Partition, within: bool, i: usize) -> bool
-    requires { ⌜ Within p s (now img) ⌝ }
-    requires { ⌜ (t .0 < p) × (i < s * fields) ⌝ }
-    ensures { λ r. ⌜ (now (img .exit) ≡ followAt s (t .0) within (now (img .entry)) i) × (r ≡ false → now (img .exit) ≡ now (img .entry)) ⌝ }
-{
-    let q = t.0 as usize;
-    let j = q * s + i / FIELDS;
-    if img[image::FRONT + image::STRIDE * j] != 2 { // only a marked object passes marks on
-        return false;
-    }
-    let w = img[image::FRONT + image::STRIDE * j + 2 + i % FIELDS];
-    if w == 0 {
-        return false;
-    }
-    let k = image::place_of(w, s);
-    let wants = is_wanted(s, q, within, k);
-    if !wants {
-        return false;
-    }
-    if img[image::FRONT + image::STRIDE * k] != 1 {
-        return false;
-    }
-    image::mark(img, s, k);
-    true
-}
-
-// What a sweep does at i. Where it answers false, the image is as before.
-fn step(img: &mut [u32], p: usize, s: usize, what: Sweep, i: usize) -> bool
+// What a sweep does at i.
+fn step(img: &mut [u32], p: usize, s: usize, what: Sweep, i: usize)
     requires { ⌜ Within p s (now img) ⌝ }
     requires { ⌜ Reaches p s what i ⌝ }
-    ensures { λ r. ⌜ (now (img .exit) ≡ stepOf s what (now (img .entry)) i) × (r ≡ false → now (img .exit) ≡ now (img .entry)) ⌝ }
+    ensures { λ _. ⌜ now (img .exit) ≡ stepOf s what (now (img .entry)) i ⌝ }
 {
     match what {
         Sweep::Flags => {
             img[image::FLAG + i] = 0;
-            true
         }
         Sweep::Roots => {
             let w = img[image::ROOT + i];
             image::mark_word(img, p, s, w);
-            true
         }
         Sweep::Slots => {
             settle(img, p, s, i);
-            true
         }
-        Sweep::Fields(t, within) => follow(img, p, s, t, within, i),
     }
 }
 
-// A sweep over the numbers below n. Where it answers false, the image is as before.
-fn each(img: &mut [u32], p: usize, s: usize, what: Sweep, n: usize) -> bool
+// A sweep over the numbers below n.
+fn each(img: &mut [u32], p: usize, s: usize, what: Sweep, n: usize)
     requires { ⌜ Within p s (now img) ⌝ }
     requires { ⌜ ((i : ℕ) → i < n → Reaches p s what i) ⌝ }
-    ensures { λ r. ⌜ (now (img .exit) ≡ each n (stepOf s what) (now (img .entry))) × (r ≡ false → now (img .exit) ≡ now (img .entry)) ⌝ }
+    ensures { λ _. ⌜ now (img .exit) ≡ each n (stepOf s what) (now (img .entry)) ⌝ }
 {
-    let mut changed = false;
     let mut i: usize = 0;
     while i < n {
-        let c = step(img, p, s, what, i);
-        if c {
-            changed = true;
-        }
+        step(&mut *img, p, s, what, i);
         i += 1;
     }
-    changed
 }
 
-// One pass over partition t. Where it answers false, the image is as before.
-fn pass(img: &mut [u32], p: usize, s: usize, t: kinds::Partition, within: bool) -> bool
+// The marked objects of partition t are listed.
+fn list_marked(img: &[u32], p: usize, s: usize, t: usize, list: &mut [u32; 64]) -> usize
     requires { ⌜ Within p s (now img) ⌝ }
-    requires { ⌜ t .0 < p ⌝ }
-    ensures { λ r. ⌜ (now (img .exit) ≡ passOver s (t .0) within (now (img .entry))) × (r ≡ false → now (img .exit) ≡ now (img .entry)) ⌝ }
+    requires { ⌜ (t < p) × (length (now list) ≡ mostSlots) ⌝ }
+    ensures { λ r. ⌜ Listed s t (now (img .entry)) (now (list .exit)) r ⌝ }
 {
-    each(img, p, s, Sweep::Fields(t, within), s * FIELDS)
-}
-
-// Passes within partition t, until one changes no mark.
-fn inside(img: &mut [u32], p: usize, s: usize, t: kinds::Partition)
-    requires { ⌜ Within p s (now img) ⌝ }
-    requires { ⌜ t .0 < p ⌝ }
-    ensures { λ _. ⌜ now (img .exit) ≡ inside s (t .0) (now (img .entry)) ⌝ }
-{
-    let mut n: usize = 0;
-    while n < s {
-        let changed = pass(img, p, s, t, true);
-        if !changed {
-            return;
+    let mut m: usize = 0;
+    let mut k: usize = 0;
+    while k < s {
+        let j = t * s + k;
+        if img[image::FRONT + image::STRIDE * j] == 2 {
+            list[m] = j as u32;
+            m += 1;
         }
-        n += 1;
+        k += 1;
+    }
+    m
+}
+
+// What the word w names becomes marked; an object of partition t that was not is put at the list's end.
+fn note(
+    img: &mut [u32],
+    p: usize,
+    s: usize,
+    t: usize,
+    w: u32,
+    list: &mut [u32; 64],
+    m: usize,
+) -> usize
+    requires { ⌜ Within p s (now img) ⌝ }
+    requires { ⌜ (t < p) × (w ≢ 0 → placeOf s w < p * s) ⌝ }
+    requires { ⌜ Listed s t (now img) (now list) m ⌝ }
+    ensures { λ r. ⌜ (now (img .exit) ≡ markWord s (now (img .entry)) w) × Listed s t (now (img .exit)) (now (list .exit)) r × Longer (now (list .entry)) m (now (list .exit)) r ⌝ }
+{
+    if w == 0 {
+        return m;
+    }
+    let j = image::place_of(w, s);
+    if img[image::FRONT + image::STRIDE * j] != 1 {
+        return m;
+    }
+    image::mark_word(&mut *img, p, s, w);
+    let q = image::part_of(w, s);
+    if q != t {
+        return m;
+    }
+    list[m] = j as u32;
+    m + 1
+}
+
+// What the fields of the object at j name becomes marked, and listed if it is in partition t.
+fn visit(
+    img: &mut [u32],
+    p: usize,
+    s: usize,
+    t: usize,
+    j: usize,
+    list: &mut [u32; 64],
+    m: usize,
+) -> usize
+    requires { ⌜ Within p s (now img) ⌝ }
+    requires { ⌜ (t < p) × (j < p * s) ⌝ }
+    requires { ⌜ Listed s t (now img) (now list) m ⌝ }
+    ensures { λ r. ⌜ (now (img .exit) ≡ markFields s (now (img .entry)) j) × Listed s t (now (img .exit)) (now (list .exit)) r × Longer (now (list .entry)) m (now (list .exit)) r ⌝ }
+{
+    let mut end = m;
+    let mut k: usize = 0;
+    while k < FIELDS {
+        let w = img[image::FRONT + image::STRIDE * j + 2 + k];
+        end = note(&mut *img, p, s, t, w, &mut *list, end);
+        k += 1;
+    }
+    end
+}
+
+// The marks of a trace, by a list of objects still to visit: an object of partition t is listed once, when it is marked or because it was, and
+// its fields are looked at once. Targets in other partitions are marked in the same visit.
+fn walk(img: &mut [u32], p: usize, s: usize, t: usize)
+    requires { ⌜ Within p s (now img) ⌝ }
+    requires { ⌜ t < p ⌝ }
+    ensures { λ _. ⌜ now (img .exit) ≡ outside s t (inside s t (now (img .entry))) ⌝ }
+{
+    let mut list = [0u32; 64];
+    let mut m = list_marked(img, p, s, t, &mut list);
+    let mut at: usize = 0;
+    while at < m {
+        let j = image::wide(list[at]);
+        m = visit(&mut *img, p, s, t, j, &mut list, m);
+        at += 1;
     }
 }
 
@@ -207,8 +222,7 @@ pub fn trace(img: &mut [u32], p: usize, s: usize, t: kinds::Partition)
     requires { ⌜ (t .0 < p) × (get (now img) count < 4294967295) ⌝ }
     ensures { λ _. ⌜ now (img .exit) ≡ traceOne s (t .0) (now (img .entry)) ⌝ }
 {
-    inside(img, p, s, t);
-    pass(img, p, s, t, false);
+    walk(img, p, s, t.0 as usize);
     let c = img[image::COUNT];
     img[image::FLAG + t.0 as usize] = 1;
     img[image::COUNT] = c + 1;

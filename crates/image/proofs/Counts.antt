@@ -1,6 +1,6 @@
 -- What counts need where a reference is stored or goes: they are right, so the one that falls is above 0, and the one that rises has room.
 -- Assumes nothing.
-use Prim.Native.Nat.{ℕ, _+_, _*_, _-_, _/_, _<_}
+use Prim.Native.Nat.{ℕ, _+_, _*_, _-_, _≤_, _<_}
 use mathlib.Core.Path.{_≡_, refl, sym, ap, _∙_}
 use mathlib.Core.Bool.{Bool, true, false, cond}
 use mathlib.Core.Logic.{_≢_}
@@ -10,13 +10,13 @@ use lib.ListN.{length, getD, set}
 use borrow.Author.Tests.{eq-eqb, ne-eqb, eqb-false, not-true}
 use Rattle.loops.specs.Loop.{both, bit}
 use Rattle.loops.proofs.Tests.{both-true}
-use Rattle.kinds.specs.Names.{mostPartitions}
 use Rattle.model.specs.Image.{Image, inlist, field, front, stride, addr, get, put, placeOf, partOf, abroad, lose, gain, recount, refer, release, a-field}
 use Rattle.model.specs.Sound.{points}
 use Rattle.model.proofs.Keys.{Sized, sized-put, lose-keeps}
+use Rattle.model.proofs.Places.{row-part, part-row}
 use Rattle.model.proofs.Counting.{counted, count-most, lose-read}
 use Rattle.image.specs.Within.{Within, countAt, Changes, Loses, Gains}
-use Rattle.image.proofs.Within.{Leads, product}
+use Rattle.image.proofs.Within.{Leads, places}
 
 abroad-some : (S j w : ℕ) → abroad S j w ≡ true → w ≢ 0
 unfolding abroad
@@ -27,14 +27,21 @@ pub at-nothing : (S j w : ℕ) → w ≡ 0 → 0 ≡ countAt S j w
 unfolding countAt abroad
 at-nothing S j w e = rw e
 
-module _ (S j w t : ℕ) (some : w ≢ 0) (e : t ≡ placeOf S w) where
-  pub at-near : t / S ≡ j / S → 0 ≡ countAt S j w
-  unfolding countAt abroad partOf
-  at-near q = rw (ne-eqb w 0 some, ← e, eq-eqb (j / S) (t / S) (sym q))
+-- a word that names an object of partition q, which has the places from q·S on: nowhere if j is one of these, else at the object's count
+module _ (S j w t q : ℕ) (pos : 0 < S) (some : w ≢ 0) (e : t ≡ placeOf S w) (f : q ≡ partOf S (placeOf S w)) where
+  pub at-near : q * S ≤ j → j < q * S + S → 0 ≡ countAt S j w
+  unfolding countAt abroad
+  at-near a b = rw (ne-eqb w 0 some, ← f, eq-eqb (partOf S j) q (row-part S q j pos a b))
 
-  pub at-far : t / S ≢ j / S → front + stride * t + 6 ≡ countAt S j w
-  unfolding countAt abroad partOf addr
-  at-far q = rw (ne-eqb w 0 some, ← e, ne-eqb (j / S) (t / S) (λ r. q (sym r)))
+  at-far : partOf S j ≢ q → front + stride * t + 6 ≡ countAt S j w
+  unfolding countAt abroad addr
+  at-far ne = rw (ne-eqb w 0 some, ← f, ← e, ne-eqb (partOf S j) q ne)
+
+  pub at-below : j < q * S → front + stride * t + 6 ≡ countAt S j w
+  at-below l = at-far (λ r. omega (arith, part-row S q j pos r .0))
+
+  pub at-above : q * S + S ≤ j → front + stride * t + 6 ≡ countAt S j w
+  at-above l = at-far (λ r. omega (arith, part-row S q j pos r .1))
 
 -- what a loss and a gain know of it
 module _ {Q : ℕ → Type 0} {S j w : ℕ} {x : Image} (h : Changes Q S j w x) (at : ℕ) (e : at ≡ countAt S j w) where
@@ -112,7 +119,7 @@ module _ {P S : ℕ} {x : Image} (h : Within P S x) (j k : ℕ) (lj : j < P * S)
             let q = lose-read (P * S) S x j (get x (field j k)) t (h .long) lt in
             let r = h .right .counts t lt in
             let m = count-most (P * S) S x t in
-            let b = product mostPartitions P S (h .small) (h .wide) in
+            let b = places h in
             rw e (omega arith);
       }
     where

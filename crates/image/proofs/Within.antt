@@ -1,12 +1,12 @@
 -- Every sound image is within its bounds, and every move keeps it there.
 -- Assumes nothing.
-use Prim.Native.Nat.{ℕ, _*_, _-_, _/_, _%_, _≤_, _<_}
+use Prim.Native.Nat.{ℕ, _*_, _-_, _/_, _%_, _^_, _≤_, _<_}
 use mathlib.Core.Path.{_≡_, refl, sym, ap, _∙_, subst}
 use mathlib.Core.Bool.{Bool, true, false, cond}
 use mathlib.Core.Logic.{_≢_}
-use native.Mathlib.Nat.{div-lt-iff-lt-mul, lt-of-lt-of-le, mul-le-mul, zero-mul}
+use native.Mathlib.Nat.{div-lt-iff-lt-mul, lt-of-lt-of-le, mul-le-mul, zero-mul, zero-div}
 use native.Mathlib.Omega.{arith}
-use lib.Arith.{digits-lt}
+use lib.Arith.{digits-lt, digits-div}
 use lib.Dec.{eqb}
 use lib.ListN.{length}
 use borrow.Author.Tests.{eqb-true, eqb-false}
@@ -14,6 +14,7 @@ use Rattle.loops.proofs.Tests.{both-true, clash}
 use Rattle.kinds.specs.Names.{mostPartitions, mostSlots, radix}
 use Rattle.model.specs.Image.{Image, Key, head, root, flag, state, payload, inlist, field, addr, get, put, placeOf, partOf, refer, release, Holder, a-root, a-field}
 use Rattle.model.specs.Acts.{mark, markWord}
+use Rattle.model.specs.Outlist.{mostPlaces}
 use Rattle.model.specs.Sound.{SoundAt, NamesUsed, Right}
 use Rattle.model.proofs.Keys.{Fits, In, Sized, same, touches, get-put-apart, sized-put, sized-length, refer-apart, refer-same, sized-refer, release-apart, release-same, sized-release}
 use Rattle.model.proofs.Counting.{right-put, right-refer, right-release}
@@ -95,6 +96,10 @@ holders n (field i h) (field j k) (a-field l m) (a-field o q) e =
 pub product : (M p s : ℕ) → p ≤ M → s ≤ mostSlots → p * s ≤ M * mostSlots
 product M p s hp hs = mul-le-mul {n₁ = p} {m₁ = s} {n₂ = M} {m₂ = mostSlots} hp hs
 
+-- no image has more places than there can be
+pub places : {P S : ℕ} {x : Image} → Within P S x → P * S ≤ mostPlaces
+places {P} {S} w = product mostPartitions P S (w .small) (w .wide)
+
 -- a place's partition is one of P
 pub part-in : (P S j : ℕ) → 0 < S → j < P * S → partOf S j < P
 unfolding partOf
@@ -104,6 +109,20 @@ part-in P S j s l = div-lt-iff-lt-mul s .1 l
 pub word-none : (S : ℕ) → 0 ≡ placeOf S 0
 unfolding placeOf
 word-none S = omega (arith, zero-mul S)
+
+-- where a word leads, at most
+pub word-most : (S w : ℕ) → S ≤ mostSlots → w < 2 ^ 32 → placeOf S w < 2 ^ 33
+unfolding placeOf
+word-most S w s l = omega (arith, product (2 ^ 26) ((w - 1) / radix) S (omega arith) s)
+
+-- the partition of what a word names: its own, if its slot is below S
+pub part-none : (S : ℕ) → 0 ≡ partOf S (placeOf S 0)
+unfolding partOf
+part-none S = rw (← word-none S) (sym (zero-div S))
+
+pub part-word : (S w : ℕ) → (w - 1) % radix < S → (w - 1) / radix ≡ partOf S (placeOf S w)
+unfolding placeOf partOf
+part-word S w l = sym (digits-div ((w - 1) / radix) l)
 
 pub word-in : (P S w : ℕ) → (w - 1) / radix < P → (w - 1) % radix < S → placeOf S w < P * S
 unfolding placeOf

@@ -1,15 +1,14 @@
-// The image as code: places, marks, the two ways in which a reference changes and what they do to counts, and format, over lent words. Each
-// function is proved equal to the model's definition of the same name. An inner function asks for an address in range, not for a
-// sound image; what keeps every reference in range and every count right is `Within` (specs/Within.antt), which follows from soundness and is
-// kept by every move (proofs/Within.antt).
+// The image as code: places, marks, the two ways in which a reference changes and what they do to counts, and format, over lent words. What the
+// model defines is proved equal to the definition of its name. No function asks for a sound image; what keeps every reference in range and
+// every count right is `Within` (specs/Within.antt), which follows from soundness and is kept by every move (proofs/Within.antt).
 ghost use mathlib.Core.Path.{_≡_};
 ghost use mathlib.Core.Logic.{_≢_};
 ghost use Prim.Native.Nat.{_*_, _^_, _<_, _≤_};
 ghost use lib.ListN.{length, replicate};
-ghost use Rattle.kinds.specs.Names.{mostPartitions, mostSlots};
-ghost use Rattle.model.specs.Image.{root, state, field, addr, lengthOf, size, blank, place, placeOf, partOf, lose, gain, refer, release};
+ghost use Rattle.kinds.specs.Names.{mostSlots};
+ghost use Rattle.model.specs.Image.{root, field, addr, lengthOf, size, blank, place, placeOf, partOf, lose, gain, refer, release};
 ghost use Rattle.model.specs.Judge.{judgeFormat};
-ghost use Rattle.model.specs.Acts.{mark, markWord};
+ghost use Rattle.model.specs.Acts.{markWord};
 ghost use Rattle.image.specs.Within.{Within, countAt, Loses, Gains};
 
 // The words before the slots, and the words of a slot.
@@ -37,6 +36,13 @@ pub const COUNT: usize = 3;
 
 pub const ALLOWANCE: usize = 4;
 
+// A word as a place: an element of an array is not cast where it stands.
+pub fn wide(x: u32) -> usize
+    ensures { λ r. ⌜ r ≡ x ⌝ }
+{
+    x as usize
+}
+
 // The place of a name that is known to have one, whatever its numbers are.
 pub fn place(n: kinds::Name, s: usize) -> usize
     requires { ⌜ place s n < 2 ^ 62 ⌝ }
@@ -59,29 +65,41 @@ pub fn place_of(w: u32, s: usize) -> usize
     p as usize * s + t as usize
 }
 
-// An unmarked object becomes marked, and its partition not clean.
-pub fn mark(img: &mut [u32], s: usize, j: usize)
-    requires { ⌜ (0 < s) × (partOf s j < mostPartitions) × (addr (state j) < length (now img)) ⌝ }
-    ensures { λ _. ⌜ now (img .exit) ≡ mark s (now (img .entry)) j ⌝ }
+// The partition of the place that a reference word names: the word's own, if its slot is below s. In an image that is only `Within` a slot may
+// be s or more, and the place then in a later partition, which a division finds; a sound image has no such word.
+pub fn part_of(w: u32, s: usize) -> usize
+    requires { ⌜ (0 < s) × (s ≤ mostSlots) ⌝ }
+    ensures { λ r. ⌜ r ≡ partOf s (placeOf s w) ⌝ }
 {
-    let at = FRONT + STRIDE * j;
-    if img[at] == 1 {
-        let p = j / s;
-        img[FLAG + p] = 0;
-        img[at] = 2;
+    if w == 0 {
+        return 0;
     }
+    let k = w - 1;
+    let t = (k % kinds::Target::RADIX) as usize;
+    if t < s {
+        return (k / kinds::Target::RADIX) as usize;
+    }
+    let j = place_of(w, s);
+    j / s
 }
 
-// What a reference word names becomes marked.
+// What a reference word names becomes marked, if it is unmarked, and its partition not clean.
 pub fn mark_word(img: &mut [u32], p: usize, s: usize, w: u32)
     requires { ⌜ Within p s (now img) ⌝ }
     requires { ⌜ (w ≢ 0 → placeOf s w < p * s) ⌝ }
     ensures { λ _. ⌜ now (img .exit) ≡ markWord s (now (img .entry)) w ⌝ }
 {
-    if w != 0 {
-        let j = place_of(w, s);
-        mark(img, s, j);
+    if w == 0 {
+        return;
     }
+    let j = place_of(w, s);
+    let at = FRONT + STRIDE * j;
+    if img[at] != 1 {
+        return;
+    }
+    let q = part_of(w, s);
+    img[FLAG + q] = 0;
+    img[at] = 2;
 }
 
 // A root takes a reference.
@@ -101,10 +119,16 @@ fn count_at(s: usize, j: usize, w: u32) -> usize
         return 0;
     }
     let t = place_of(w, s);
-    if t / s == j / s {
-        return 0;
+    let q = part_of(w, s);
+    let at = FRONT + STRIDE * t + INLIST;
+    let lo = q * s;
+    if j < lo {
+        return at;
     }
-    FRONT + STRIDE * t + INLIST
+    if lo + s <= j {
+        return at;
+    }
+    0
 }
 
 // A field of the object at j loses a word: what it names in another partition is counted once less.

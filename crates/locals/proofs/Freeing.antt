@@ -1,7 +1,7 @@
 -- Where exactly the places that stay are noted, what is freed and how many is the model's answer.
 -- Assumes nothing.
 use Prim.Native.Nat.{ℕ, _+_, _*_, _<_}
-use mathlib.Core.Path.{_≡_, refl, sym, ap}
+use mathlib.Core.Path.{_≡_, refl, ap}
 use mathlib.Core.Bool.{Bool, true, false, not, cond}
 use mathlib.Core.Logic.{_≢_}
 use lib.ListN.{getD}
@@ -10,31 +10,20 @@ use Rattle.loops.specs.Loop.{both, bit, each, tally}
 use Rattle.loops.proofs.Loops.{tally-same}
 use Rattle.loops.proofs.Walks.{each-same}
 use Rattle.model.specs.Image.{Image, get, front, stride, addr}
-use Rattle.model.specs.Acts.{used, clear, freeBut, localBits, localUp, localFreed}
+use Rattle.model.specs.Acts.{used, clear, freeBut, localUp, localFreed}
 use Rattle.model.specs.Questions.{Bits, hasBit}
-use Rattle.model.proofs.Localizing.{local-so, local-only}
 use Rattle.image.specs.Within.{Within}
 use Rattle.collector.proofs.Clears.{within-clear}
-use Rattle.locals.specs.Todo.{Told, settleOf, lostAt}
+use Rattle.locals.specs.Slots.{Kept, lostAt, settleOf}
 
--- two tests that pass together are the same
-same-test : (a b : Bool) → (a ≡ true → b ≡ true) → (b ≡ true → a ≡ true) → a ≡ b
-same-test true b f g = sym (f refl)
-same-test false true f g = g refl
-same-test false false f g = refl
-
-module _ {P S : ℕ} {x : Image} (w : Within P S x) (p : ℕ) (inp : p < P) {marks : Bits} (t : Told S p x marks) where
-  noted : (j : ℕ) → hasBit marks j ≡ hasBit (localBits P S p x) j
-  noted j =
-      same-test _ _ (λ e. local-so P S (w .some-slot) p inp x (w .refs) j (t .only j e)) (λ e. t .so j (local-only P S (w .some-slot) p inp x (w .refs) j e))
-
+module _ (P S p : ℕ) (x : Image) (marks : Bits) (kept : Kept P S p x marks) where
   pub freed : each S (λ y k. settleOf S marks y (p * S + k)) x ≡ localUp P S p x
-  unfolding localUp freeBut
-  freed = each-same _ _ S x (λ y k l. ap (λ (b : Bool). cond b y (clear S y (p * S + k))) (noted (p * S + k)))
+  unfolding localUp freeBut Kept
+  freed = each-same _ _ S x (λ y k l. ap (λ (b : Bool). cond b y (clear S y (p * S + k))) (kept (p * S + k)))
 
   pub number : tally S (lostAt S p x marks) ≡ localFreed P S p x
-  unfolding localFreed
-  number = tally-same S _ _ (λ k l. ap (λ (b : Bool). both (used x (p * S + k)) (not b)) (noted (p * S + k)))
+  unfolding localFreed Kept
+  number = tally-same S _ _ (λ k l. ap (λ (b : Bool). both (used x (p * S + k)) (not b)) (kept (p * S + k)))
 
 -- a slot settled stays within bounds
 pub within-settle : {P S : ℕ} {x : Image} → Within P S x → (marks : Bits) (j : ℕ) → j < P * S → (y : Image) → y ≡ settleOf S marks x j → Within P S y

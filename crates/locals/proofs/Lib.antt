@@ -1,5 +1,5 @@
-pub mod Noting
-pub mod Leading
+pub mod Owning
+pub mod Keeping
 pub mod Freeing
 pub mod Outing
 pub mod Naming

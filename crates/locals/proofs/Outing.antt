@@ -15,7 +15,8 @@ use Rattle.model.proofs.Places.{part-of}
 use Rattle.model.proofs.Outlists.{out-tally}
 use Rattle.image.specs.Within.{Within}
 use Rattle.locals.specs.Outlist.{Gathers}
-use Rattle.locals.proofs.Leading.{places, slot-small}
+use Rattle.image.proofs.Within.{places}
+use Rattle.locals.proofs.Owning.{slot-small}
 
 module _ {P S : ℕ} {x : Image} (w : Within P S x) (p : ℕ) (inp : p < P) (f : ℕ) (lf : f < 4 * S) (b : Bits) (wide : length b ≡ mostPlaces) where
   pub out-in : p * S + f / 4 < P * S
@@ -41,13 +42,13 @@ module _ {P S : ℕ} {x : Image} (w : Within P S x) (p : ℕ) (inp : p < P) (f :
       unfolding get addr
       out-place = let l : i < P * S = rw e (w .refs (field (p * S + f / 4) (f % 4)) (a-field out-in (omega arith)) ref) in omega (arith, places w)
 
-      pub out-own : i / S ≡ p → (b ≡ outOne S p x b f) × (length b ≡ mostPlaces)
-      unfolding goesOut abroad get addr partOf
-      out-own q = stays (rw (ne-eqb _ _ some, ne-eqb _ _ ref, mine, ← e, eq-eqb p (i / S) (sym q)))
+      pub out-own : (q : ℕ) → q ≡ partOf S (placeOf S (getD x (front + stride * (p * S + f / 4) + 2 + f % 4) 0)) → q ≡ p → (b ≡ outOne S p x b f) × (length b ≡ mostPlaces)
+      unfolding goesOut abroad get addr
+      out-own q a z = stays (rw (ne-eqb _ _ some, ne-eqb _ _ ref, mine, ← a, eq-eqb p q (sym z)))
 
-      pub out-far : i / S ≢ p → (set b i 1 ≡ outOne S p x b f) × (length (set b i 1) ≡ mostPlaces)
-      unfolding goesOut goesTo abroad addBit get addr partOf
-      out-far q = (rw (ne-eqb _ _ some, ne-eqb _ _ ref, mine, ← e, ne-eqb p (i / S) (λ z. q (sym z))), length-set b i 1 ∙ wide)
+      pub out-far : (q : ℕ) → q ≡ partOf S (placeOf S (getD x (front + stride * (p * S + f / 4) + 2 + f % 4) 0)) → q ≢ p → (set b i 1 ≡ outOne S p x b f) × (length (set b i 1) ≡ mostPlaces)
+      unfolding goesOut goesTo abroad addBit get addr
+      out-far q a ne = (rw (ne-eqb _ _ some, ne-eqb _ _ ref, mine, ← a, ← e, ne-eqb p q (λ z. ne (sym z))), length-set b i 1 ∙ wide)
 
 -- what the list of names asks of the marked places
 pub gathers : {P S : ℕ} {x : Image} → Within P S x → (p : ℕ) (bits : Bits) → bits ≡ outBits S p x → Gathers P S bits

@@ -1,2 +1,2 @@
-pub mod Todo
+pub mod Slots
 pub mod Outlist

@@ -1,91 +1,19 @@
 // One partition on its own: `local` frees every object of partition t that neither a root, nor a counted foreign reference, nor a chain inside t
-// from either of these leads to, and answers how many (the model's `localUp` and `localFreed`). It keeps a to-do list (specs/Todo.antt): a place is
-// noted once, when its count is above 0 or a root or a field of a noted place names it. That exactly the places that stay are noted is `told`.
+// from either of these leads to, and answers how many (the model's `localUp` and `localFreed`). It notes what roots and counts say and lets crate
+// todo follow the fields inside t from there; that exactly the places that stay are noted is `all-kept` in proofs/Keeping.antt.
 // `outlist` answers the names that t's objects hold of other partitions' objects (the model's `outlist`): it marks their places and lists
 // the marked ones in order.
 use kinds::Outlist;
 ghost use mathlib.Core.Path.{_≡_};
-ghost use Prim.Native.Nat.{ℕ, _+_, _*_, _≤_, _<_};
+ghost use Prim.Native.Nat.{_+_, _*_, _≤_, _<_};
 ghost use lib.ListN.{length, replicate};
-ghost use Rattle.kinds.specs.Names.{mostSlots};
 ghost use Rattle.model.specs.Acts.{localUp, localFreed};
-ghost use Rattle.model.specs.Effects.{KeptIn};
 ghost use Rattle.model.specs.Outlist.{mostPlaces, outOne, outBits, nameOne, listNames, outlist};
 ghost use Rattle.image.specs.Within.{Within};
+ghost use Rattle.todo.specs.Notes.{Noted, More};
 ghost use Rattle.loops.specs.Loop.{bit, each, tally};
 ghost use Rattle.locals.specs.Outlist.{nameState, Placed, Gathers};
-ghost use Rattle.locals.specs.Todo.{Todo, More, Enterable, Entered, Follows, NotedAt, NotedRow, Told, settleOf, lostAt, NotedIfNamed, NamedRow};
-
-fn wide(x: u32) -> usize
-    ensures { λ r. ⌜ r ≡ x ⌝ }
-{
-    x as usize
-}
-
-// Place j is noted, unless it is: marked, and put at the end of the list.
-fn enter(j: usize, marks: &mut [u32; 1024], list: &mut [u32; 1024], n: usize) -> usize
-    requires { ⌜ Enterable (now marks) (now list) n j ⌝ }
-    ensures { λ r. ⌜ Entered (now (marks .entry)) (now (list .entry)) n j (now (marks .exit)) (now (list .exit)) r ⌝ }
-{
-    if marks[j] == 1 {
-        return n;
-    }
-    marks[j] = 1;
-    list[n] = j as u32;
-    n + 1
-}
-
-// What the word at an address names in partition t, if anything, is noted.
-fn note(
-    img: &[u32],
-    s: usize,
-    t: usize,
-    a: usize,
-    marks: &mut [u32; 1024],
-    list: &mut [u32; 1024],
-    n: usize,
-) -> usize
-    requires { ⌜ s ≤ mostSlots ⌝ }
-    requires { ⌜ Follows s t (now img) a ⌝ }
-    requires { ⌜ Todo (KeptIn s t (now img)) (now marks) (now list) n ⌝ }
-    ensures { λ r. ⌜ More (KeptIn s t (now (img .entry))) (now (marks .entry)) (now (list .entry)) n (now (marks .exit)) (now (list .exit)) r ⌝ }
-    ensures { λ r. ⌜ NotedAt s t (now (img .entry)) (now (marks .exit)) a ⌝ }
-{
-    let w = img[a];
-    if w == 0 {
-        return n;
-    }
-    let j = image::place_of(w, s);
-    if j / s != t {
-        return n;
-    }
-    enter(j, &mut *marks, &mut *list, n)
-}
-
-// The same of every word of a row of `count` words.
-fn note_row(
-    img: &[u32],
-    s: usize,
-    t: usize,
-    from: usize,
-    count: usize,
-    marks: &mut [u32; 1024],
-    list: &mut [u32; 1024],
-    n: usize,
-) -> usize
-    requires { ⌜ s ≤ mostSlots ⌝ }
-    requires { ⌜ ((i : ℕ) → i < count → Follows s t (now img) (from + i)) ⌝ }
-    requires { ⌜ Todo (KeptIn s t (now img)) (now marks) (now list) n ⌝ }
-    ensures { λ r. ⌜ NotedRow s t (now (img .entry)) from count (now (marks .entry)) (now (list .entry)) n (now (marks .exit)) (now (list .exit)) r ⌝ }
-{
-    let mut end = n;
-    let mut i: usize = 0;
-    while i < count {
-        end = note(img, s, t, from + i, &mut *marks, &mut *list, end);
-        i += 1;
-    }
-    end
-}
+ghost use Rattle.locals.specs.Slots.{namedOne, Kept, lostAt, settleOf};
 
 // The object in slot k of partition t is noted, if foreign fields name it.
 fn note_named(
@@ -96,19 +24,19 @@ fn note_named(
     k: usize,
     marks: &mut [u32; 1024],
     list: &mut [u32; 1024],
-    n: usize,
+    m: usize,
 ) -> usize
     requires { ⌜ Within p s (now img) ⌝ }
     requires { ⌜ (t < p) × (k < s) ⌝ }
-    requires { ⌜ Todo (KeptIn s t (now img)) (now marks) (now list) n ⌝ }
-    ensures { λ r. ⌜ More (KeptIn s t (now (img .entry))) (now (marks .entry)) (now (list .entry)) n (now (marks .exit)) (now (list .exit)) r ⌝ }
-    ensures { λ r. ⌜ NotedIfNamed s t (now (img .entry)) (now (marks .exit)) k ⌝ }
+    requires { ⌜ Noted (t * s) s (now marks) (now list) m ⌝ }
+    ensures { λ r. ⌜ (now (marks .exit) ≡ namedOne s t (now (img .entry)) (now (marks .entry)) k) × More (t * s) s (now (list .entry)) m (now (marks .exit)) (now (list .exit)) r ⌝ }
 {
-    let j = t * s + k;
+    let lo = t * s;
+    let j = lo + k;
     if img[image::FRONT + image::STRIDE * j + image::INLIST] == 0 {
-        return n;
+        return m;
     }
-    enter(j, &mut *marks, &mut *list, n)
+    todo::enter(lo, s, j, &mut *marks, &mut *list, m)
 }
 
 // Every object of partition t that foreign fields name is noted.
@@ -119,14 +47,14 @@ fn note_counted(
     t: usize,
     marks: &mut [u32; 1024],
     list: &mut [u32; 1024],
-    n: usize,
+    m: usize,
 ) -> usize
     requires { ⌜ Within p s (now img) ⌝ }
     requires { ⌜ t < p ⌝ }
-    requires { ⌜ Todo (KeptIn s t (now img)) (now marks) (now list) n ⌝ }
-    ensures { λ r. ⌜ NamedRow s t (now (img .entry)) s (now (marks .entry)) (now (list .entry)) n (now (marks .exit)) (now (list .exit)) r ⌝ }
+    requires { ⌜ Noted (t * s) s (now marks) (now list) m ⌝ }
+    ensures { λ r. ⌜ (now (marks .exit) ≡ each s (namedOne s t (now (img .entry))) (now (marks .entry))) × More (t * s) s (now (list .entry)) m (now (marks .exit)) (now (list .exit)) r ⌝ }
 {
-    let mut end = n;
+    let mut end = m;
     let mut k: usize = 0;
     while k < s {
         end = note_named(img, p, s, t, k, &mut *marks, &mut *list, end);
@@ -135,38 +63,27 @@ fn note_counted(
     end
 }
 
-// What roots and foreign fields name is noted, then what the fields of each place of the list name inside t, the list growing meanwhile.
-fn spread(
-    img: &[u32],
-    p: usize,
-    s: usize,
-    t: usize,
-    marks: &mut [u32; 1024],
-    list: &mut [u32; 1024],
-)
+// The places of partition t that stay are noted: what roots and foreign fields name there, then what chains inside t lead to.
+fn keep(img: &[u32], p: usize, s: usize, t: usize, marks: &mut [u32; 1024])
     requires { ⌜ Within p s (now img) ⌝ }
-    requires { ⌜ t < p ⌝ }
-    requires { ⌜ Todo (KeptIn s t (now img)) (now marks) (now list) 0 ⌝ }
-    ensures { λ _. ⌜ Told s t (now (img .entry)) (now (marks .exit)) ⌝ }
+    requires { ⌜ (t < p) × (now marks ≡ replicate 1024 0) ⌝ }
+    ensures { λ _. ⌜ Kept p s t (now (img .entry)) (now (marks .exit)) ⌝ }
 {
-    let m = note_row(
+    let lo = t * s;
+    let mut list = image::zeros();
+    let named = todo::note_row(
         img,
         s,
-        t,
+        lo,
+        s,
         image::ROOT,
         image::ANCHORS,
         &mut *marks,
-        &mut *list,
+        &mut list,
         0,
     );
-    let mut n = note_counted(img, p, s, t, &mut *marks, &mut *list, m);
-    let mut at: usize = 0;
-    while at < n {
-        let j = wide(list[at]);
-        let from = image::FRONT + image::STRIDE * j + 2;
-        n = note_row(img, s, t, from, 4, &mut *marks, &mut *list, n);
-        at += 1;
-    }
+    let m = note_counted(img, p, s, t, &mut *marks, &mut list, named);
+    todo::spread(img, p, s, lo, s, &mut *marks, &mut list, m);
 }
 
 // 1 where the object in slot k of partition t is in use and not noted, else 0.
@@ -233,8 +150,7 @@ pub fn local(img: &mut [u32], p: usize, s: usize, t: usize) -> usize
     ensures { λ r. ⌜ (now (img .exit) ≡ localUp p s t (now (img .entry))) × (r ≡ localFreed p s t (now (img .entry))) ⌝ }
 {
     let mut marks = image::zeros();
-    let mut list = image::zeros();
-    spread(img, p, s, t, &mut marks, &mut list);
+    keep(img, p, s, t, &mut marks);
     let n = lost(img, p, s, t, &marks);
     free(img, p, s, t, &marks);
     n
@@ -255,7 +171,8 @@ fn mark_out(img: &[u32], p: usize, s: usize, t: usize, f: usize, bits: &mut [u32
         return;
     }
     let i = image::place_of(w, s);
-    if i / s == t {
+    let q = image::part_of(w, s);
+    if q == t {
         return;
     }
     bits[i] = 1;

@@ -31,7 +31,7 @@ module _ {X : Type 0} (Q : X → Type 0) where
 
 module _ {X : Type 0} (f : X → X) where
   -- a state that a turn leaves as it is
-  pub again-rests : (n : ℕ) (x : X) → f x ≡ x → again n f x ≡ x
+  again-rests : (n : ℕ) (x : X) → f x ≡ x → again n f x ≡ x
   unfolding again
   again-rests zero x e = refl
   again-rests (suc n) x e = rw e (again-rests n x e)
@@ -43,6 +43,18 @@ module _ {X : Type 0} (f : X → X) where
   descent m Ok kept d zero x ok l = ⊎-elim (λ e. e) (λ lt. absurd (omega arith)) (d x ok)
   descent m Ok kept d (suc n) x ok l =
       ⊎-elim (λ e. subst (λ (y : X). f y ≡ y) (sym (again-rests (suc n) x e)) e) (λ lt. descent m Ok kept d n (f x) (kept x ok) (omega arith)) (d x ok)
+
+-- two rows of turns keep what each pair of turns keeps
+module _ {X Y : Type 0} (R : X → Y → Type 0) where
+  pub each-alike : (n : ℕ) (f : X → ℕ → X) (g : Y → ℕ → Y) → ((x : X) (y : Y) (i : ℕ) → i < n → R x y → R (f x i) (g y i)) → (x : X) (y : Y) → R x y → R (each n f x) (each n g y)
+  unfolding each
+  each-alike zero f g h x y r = r
+  each-alike (suc n) f g h x y r = h (each n f x) (each n g y) n (omega arith) (each-alike n f g (λ a b i l. h a b i (omega arith)) x y r)
+
+  pub again-alike : (n : ℕ) (f : X → X) (g : Y → Y) → ((x : X) (y : Y) → R x y → R (f x) (g y)) → (x : X) (y : Y) → R x y → R (again n f x) (again n g y)
+  unfolding again
+  again-alike zero f g h x y r = r
+  again-alike (suc n) f g h x y r = again-alike n f g h (f x) (g y) (h x y r)
 
 pub tally-same : (n : ℕ) (f g : ℕ → Bool) → ((i : ℕ) → i < n → f i ≡ g i) → tally n f ≡ tally n g
 unfolding tally

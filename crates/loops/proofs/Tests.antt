@@ -17,6 +17,12 @@ pub is-false : (b : Bool) → (b ≡ true → ⊥) → b ≡ false
 is-false true h = absurd (h refl)
 is-false false h = refl
 
+-- two tests that pass together are the same
+pub same-test : (a b : Bool) → (a ≡ true → b ≡ true) → (b ≡ true → a ≡ true) → a ≡ b
+same-test true b f g = sym (f refl)
+same-test false true f g = g refl
+same-test false false f g = refl
+
 pub both-true : (a b : Bool) → both a b ≡ true → (a ≡ true) × (b ≡ true)
 both-true true b e = (refl, e)
 both-true false b e = absurd (true≢false (sym e))

@@ -1,48 +1,21 @@
--- Laws of any search, sweep or row of turns: how a loop in code goes on, and what it comes to. They speak of no image.
+-- Laws of any search or sweep: how a loop in code goes on, and what it comes to. They speak of no image.
 -- Assumes nothing.
-use Prim.Native.Nat.{ℕ, zero, suc, _+_, _*_, _-_, _/_, _%_, _≤_, _<_}
-use mathlib.Core.Path.{_≡_, refl, sym, ap, _∙_, subst}
+use Prim.Native.Nat.{ℕ, zero, suc, _+_, _-_, _≤_, _<_}
+use mathlib.Core.Path.{_≡_, refl, sym, _∙_, subst}
 use mathlib.Core.Bool.{Bool, true, false, not, cond}
 use mathlib.Core.Logic.{⊎-elim}
 use native.Mathlib.Nat.{eq-or-lt-of-le}
 use native.Mathlib.Omega.{arith}
-use lib.Arith.{digits-div, digits-mod}
 use borrow.Author.Tests.{not-true, not-false}
-use Rattle.loops.specs.Loop.{each, again, first, every, tally}
+use Rattle.loops.specs.Loop.{each, first, every, tally}
 use Rattle.loops.proofs.Loops.{every-so}
 use Rattle.loops.proofs.Turns.{every-fails}
 
 module _ {X : Type 0} where
-  -- a sweep goes on where another ended
-  pub each-add : (f : X → ℕ → X) (a b : ℕ) (x : X) → each (a + b) f x ≡ each b (λ y k. f y (a + k)) (each a f x)
-  unfolding each
-  each-add f a zero x = let e : a + 0 ≡ a = omega arith in rw e
-  each-add f a (suc b) x = let e : a + suc b ≡ suc (a + b) = omega arith in rw (e, each-add f a b x)
-
   pub each-same : (f g : X → ℕ → X) (n : ℕ) (x : X) → ((y : X) (i : ℕ) → i < n → f y i ≡ g y i) → each n f x ≡ each n g x
   unfolding each
   each-same f g zero x h = refl
   each-same f g (suc n) x h = rw (each-same f g n x (λ y i l. h y i (omega arith))) (h (each n g x) n (omega arith))
-
-  -- K steps at each of n numbers are one sweep over n * K
-  pub each-flat : (K : ℕ) (f : X → ℕ → ℕ → X) (n : ℕ) (x : X) → each n (λ y j. each K (λ z k. f z j k) y) x ≡ each (n * K) (λ z i. f z (i / K) (i % K)) x
-  unfolding each
-  each-flat K f zero x = let e : 0 * K ≡ 0 = omega arith in rw e
-  each-flat K f (suc n) x =
-      let e : suc n * K ≡ n * K + K = omega arith in
-      rw (e, each-add (λ z i. f z (i / K) (i % K)) (n * K) K x, each-flat K f n x)
-      (each-same (λ z k. f z n k) (λ z k. f z ((n * K + k) / K) ((n * K + k) % K)) K (each (n * K) (λ z i. f z (i / K) (i % K)) x)
-      (λ y k l. sym (ap (λ (j : ℕ). f y j ((n * K + k) % K)) (digits-div n l) ∙ ap (f y n) (digits-mod n l))))
-
-module _ {X : Type 0} (f : X → X) where
-  -- the whole is the rest from turn n
-  pub again-on : (s n : ℕ) (x : X) → n < s → again (s - n) f x ≡ again (s - (n + 1)) f (f x)
-  unfolding again
-  again-on s n x l = let e : s - n ≡ suc (s - (n + 1)) = omega arith in rw e
-
-  pub again-end : (s n : ℕ) (x : X) → s ≤ n → again (s - n) f x ≡ x
-  unfolding again
-  again-end s n x l = let e : s - n ≡ 0 = omega arith in rw e
 
 module _ (f : ℕ → Bool) where
   -- the whole search is the rest from i

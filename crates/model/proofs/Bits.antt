@@ -7,13 +7,14 @@ use mathlib.Core.Logic.{_≢_, _⊎_, inl, inr}
 use native.Mathlib.Omega.{arith}
 use native.Mathlib.Decide.{ℕ-discrete}
 use lib.ListN.{getD, set, length, replicate, length-set, length-replicate}
-use lib.Seq.{getD-set-same, getD-set-other, set-getD}
+use lib.Seq.{getD-set-same, getD-set-other, set-getD, set-comm}
 use borrow.Author.Tests.{eqb-true}
 use Rattle.loops.proofs.Loops.{each-keeps, each-reaches}
 use Rattle.model.specs.Acts.{target}
 use Rattle.model.specs.Questions.{Bits, hasBit, addBit, collect}
 use Rattle.model.proofs.Keys.{zeros}
 use Rattle.model.proofs.Spreading.{Spreads}
+use Rattle.model.proofs.Adding.{Commutes}
 
 module _ (n : ℕ) where
   unfoldable pub Wide : Bits → Type 0
@@ -63,6 +64,11 @@ module _ (n : ℕ) where
         target-add = λ b t i k w l m. refl;
         inside = λ b j k w l m e. inn j k l m e;
       }
+
+  -- the order of additions does not matter
+  pub bit-commutes : Commutes addBit Wide (λ b t. t < n)
+  unfolding addBit
+  bit-commutes = record { swap = λ b s t w l m ne. set-comm b s t 1 1 ne; may-on = λ b s t w l m. m; may-back = λ b s t w l m. m }
 
   -- a row of additions
   module _ (test : ℕ → Bool) (at : ℕ → ℕ) where

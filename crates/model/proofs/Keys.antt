@@ -8,7 +8,7 @@ use mathlib.Core.List.{_∷_}
 use mathlib.Core.Logic.{_≢_, ⊎-elim}
 use native.Mathlib.Omega.{arith}
 use lib.ListN.{getD, length, replicate, length-set, length-replicate}
-use lib.Seq.{getD-set-same, getD-set-other, ext-getD}
+use lib.Seq.{getD-set-same, getD-set-other, set-comm, ext-getD}
 use lib.Dec.{eqb}
 use borrow.Author.Tests.{eqb-false, eq-eqb}
 use Rattle.loops.specs.Loop.{both, tally, bit}
@@ -148,6 +148,10 @@ module _ (n : ℕ) where
 pub get-put-apart : (img : Image) (κ : Key) (v : ℕ) (μ : Key) → Fits κ → Fits μ → same κ μ ≡ false → get (put img κ v) μ ≡ get img μ
 unfolding put get
 get-put-apart img κ v μ i j e = getD-set-other img (addr κ) (addr μ) v 0 (λ q. apart κ μ i j e (sym q))
+
+pub put-swap : (img : Image) (κ μ : Key) (v w : ℕ) → Fits κ → Fits μ → same κ μ ≡ false → put (put img κ v) μ w ≡ put (put img μ w) κ v
+unfolding put
+put-swap img κ μ v w i j e = set-comm img (addr κ) (addr μ) v w (λ q. apart κ μ i j e q)
 
 module _ (n : ℕ) (img : Image) (κ : Key) (v : ℕ) where
   pub sized-put : Sized n img → Sized n (put img κ v)

@@ -1,6 +1,8 @@
 pub mod Keys
 pub mod Places
 pub mod Spreading
+pub mod Adding
+pub mod Walking
 pub mod Moves
 pub mod Tracing
 pub mod Committing
@@ -10,6 +12,7 @@ pub mod Freeing
 pub mod Making
 pub mod Counting
 pub mod Bits
+pub mod Alike
 pub mod Asking
 pub mod Localizing
 pub mod Soundness

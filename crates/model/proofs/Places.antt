@@ -32,6 +32,14 @@ module _ (P S : ℕ) (some-slot : 0 < S) where
   unfolding partOf
   slot-of j p e = (j % S, mod-lt j some-slot, rw (← e) (div-add-mod' j S))
 
+-- the places of partition p are S in a row, p·S the first
+module _ (S p j : ℕ) (some-slot : 0 < S) where
+  pub row-part : p * S ≤ j → j < p * S + S → partOf S j ≡ p
+  row-part a b = let e : p * S + (j - p * S) ≡ j = omega arith in rw e at (part-of p S some-slot p (j - p * S) (omega arith))
+
+  pub part-row : partOf S j ≡ p → (p * S ≤ j) × (j < p * S + S)
+  part-row e = let s = slot-of p S some-slot j p e in (omega (arith, s .2), omega (arith, s .1, s .2))
+
 -- words of targets
 pub word-none : wordOf Nothing ≡ 0
 unfolding wordOf

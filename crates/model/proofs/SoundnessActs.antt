@@ -120,7 +120,7 @@ module _ (P S : ℕ) where
         → Holds P S x (mark S y (target S y (p * S + j) k))
     step wanted y j k lj lk e h =
         let at : p * S + j < P * S = slot-in P S (h .sound .some-slot) p j l lj in
-        let n : get y (field (p * S + j) k) ≢ 0 = refers-is P S (sound-limits P S y (h .sound)) wanted y (p * S + j) k e .0 in
+        let n : get y (field (p * S + j) k) ≢ 0 = refers-is S wanted y (p * S + j) k e .0 in
         holds-more P S h
         (holds-mark P S y (target S y (p * S + j) k) (reference-place P S y (field (p * S + j) k) (a-field at lk) n (h .sound)) (h .heads 2 (omega arith) ∙ o) (h .sound))
 

@@ -63,14 +63,14 @@ module _ {X : Type 0} (has : X → ℕ → Bool) (add : X → ℕ → X) (edge :
       pub edges : (i k : ℕ) → k < K → edge y i k ≡ edge x i k
       pub targets : (i k : ℕ) → k < K → target y i k ≡ target x i k
 
-    has-more : (x : X) (t i : ℕ) → Ok x → U x t → has x i ≡ true → has (add x t) i ≡ true
+    pub has-more : (x : X) (t i : ℕ) → Ok x → U x t → has x i ≡ true → has (add x t) i ≡ true
     has-more x t i ok u e = go (ℕ-discrete t i)
       where
         go : Dec (t ≡ i) → has (add x t) i ≡ true
         go (yes q) = subst (λ (m : ℕ). has (add x t) m ≡ true) q (L .has-same x t ok u)
         go (no q) = L .has-other x t i ok u q ∙ e
 
-    grown-add : (x y : X) (t : ℕ) → U y t → Grown x y → Grown x (add y t)
+    pub grown-add : (x y : X) (t : ℕ) → U y t → Grown x y → Grown x (add y t)
     grown-add x y t u g =
         record {
           ok = L .ok-add y t (g .ok) u;
@@ -79,7 +79,7 @@ module _ {X : Type 0} (has : X → ℕ → Bool) (add : X → ℕ → X) (edge :
           targets = λ i k l. L .target-add y t i k (g .ok) u l ∙ g .targets i k l;
         }
 
-    grown-self : (x : X) → Ok x → Grown x x
+    pub grown-self : (x : X) → Ok x → Grown x x
     grown-self x ok = record { ok = ok; more = λ i e. e; edges = λ i k l. refl; targets = λ i k l. refl }
 
     grown-step : (x y : X) (j k : ℕ) → j < n → k < K → edge y (at j) k ≡ true → Grown x y → Grown x (add y (target y (at j) k))
@@ -187,6 +187,15 @@ module _ {X : Type 0} (has : X → ℕ → Bool) (add : X → ℕ → X) (edge :
           let a : has (spread has add edge target at n K x) (at (e .0)) ≡ true = rw (e .4) (complete x v ok r) in
           rw (← e .6) (closed x (e .0) (e .1) ok (e .2) (e .3) a (e .5))
 
+    -- after the addition of what is reached, all is reached that was and is there
+    pub reached-add : (x y : X) (t v : ℕ) → Ok y → U y t → has (add y t) v ≡ true → Reach (λ w. has x w ≡ true) (Edge x) t
+        → (has y v ≡ true → Reach (λ w. has x w ≡ true) (Edge x) v) → Reach (λ w. has x w ≡ true) (Edge x) v
+    reached-add x y t v ok u h r old = go (ℕ-discrete t v)
+      where
+        go : Dec (t ≡ v) → Reach (λ w. has x w ≡ true) (Edge x) v
+        go (yes q) = rw q at r
+        go (no q) = old (sym (L .has-other y t v ok u q) ∙ h)
+
     pub least : (x : X) → Ok x → (i : ℕ) → has (spread has add edge target at n K x) i ≡ true → Reach (λ v. has x v ≡ true) (Edge x) i
     least x ok i h =
         (spread-keeps (λ y. Grown x y × ((v : ℕ) → has y v ≡ true → Reach (λ w. has x w ≡ true) (Edge x) v))
@@ -195,12 +204,5 @@ module _ {X : Type 0} (has : X → ℕ → Bool) (add : X → ℕ → X) (edge :
         let t = target y (at j) k in
         let r : Reach (λ w. has x w ≡ true) (Edge x) t =
         step (q .1 (at j) a) (j, k, l, m, refl, sym (q .0 .edges (at j) k m) ∙ e, sym (q .0 .targets (at j) k m)) in
-        (g, λ v hv. added y t v (q .0 .ok) (L .inside y j k (q .0 .ok) l m e) hv r (q .1 v)))
+        (g, λ v hv. reached-add x y t v (q .0 .ok) (L .inside y j k (q .0 .ok) l m e) hv r (q .1 v)))
         x (grown-self x ok, λ v hv. start hv)) .1 i h
-      where
-        added : (y : X) (t v : ℕ) → Ok y → U y t → has (add y t) v ≡ true → Reach (λ w. has x w ≡ true) (Edge x) t → (has y v ≡ true → Reach (λ w. has x w ≡ true) (Edge x) v) → Reach (λ w. has x w ≡ true) (Edge x) v
-        added y t v o u hv r old = go (ℕ-discrete t v)
-          where
-            go : Dec (t ≡ v) → Reach (λ w. has x w ≡ true) (Edge x) v
-            go (yes q) = rw q at r
-            go (no q) = old (sym (L .has-other y t v o u q) ∙ hv)

@@ -19,6 +19,15 @@ use Rattle.model.proofs.Places.{Shape, parts, part-of, slot-in, slot-of
 use Rattle.model.proofs.Spreading.{Spreads, reach-along, pass-keeps, spread-keeps, pass-adds, complete, least}
 use Rattle.model.proofs.Moves.{Linked, Phase, up-linked, newMark-state, newMark-flag, up-newMark, mark-keeps, phase-mark, phase-finish}
 
+-- a field that refers to a wanted place
+module _ (S : ℕ) (wanted : ℕ → Bool) (x : Image) (i k : ℕ) where
+  pub refers-is : refers S wanted x i k ≡ true → (get x (field i k) ≢ 0) × (wanted (target S x i k) ≡ true)
+  refers-is e =
+      let b = both-true (not (eqb (get x (field i k)) 0)) (wanted (target S x i k)) e in (eqb-false _ _ (not-true _ (b .0)), b .1)
+
+  pub refers-so : get x (field i k) ≢ 0 → wanted (target S x i k) ≡ true → refers S wanted x i k ≡ true
+  refers-so ne e = rw (ne-eqb (get x (field i k)) 0 ne, e)
+
 module _ (P S : ℕ) (shape : Shape P S) where
   -- an object in use
   pub Used : Image → ℕ → Type 0
@@ -53,13 +62,6 @@ module _ (P S : ℕ) (shape : Shape P S) where
       go (yes q) = mark-keeps P S shape (λ y. get y (flag p) ≡ 0) x t (λ z. rw (← q) (newMark-flag P S shape x t l (w .size))) (λ ne. e)
       go (no q) = mark-read x t (flag p) l m refl (ne-eqb _ _ q) ∙ e
 
-  pub refers-is : (wanted : ℕ → Bool) (x : Image) (i k : ℕ) → refers S wanted x i k ≡ true → (get x (field i k) ≢ 0) × (wanted (target S x i k) ≡ true)
-  refers-is wanted x i k e =
-      let b = both-true (not (eqb (get x (field i k)) 0)) (wanted (target S x i k)) e in (eqb-false _ _ (not-true _ (b .0)), b .1)
-
-  refers-so : (wanted : ℕ → Bool) (x : Image) (i k : ℕ) → get x (field i k) ≢ 0 → wanted (target S x i k) ≡ true → refers S wanted x i k ≡ true
-  refers-so wanted x i k ne e = rw (ne-eqb (get x (field i k)) 0 ne, e)
-
   -- z is x with more marks: every word that is no state and no flag stays, and so do the marks
   pub record MoreMarks (x z : Image) : Type 0 where
     pub linked : Linked P S z
@@ -93,7 +95,7 @@ module _ (P S : ℕ) (shape : Shape P S) where
             edge-add = λ x t i k w u l. rw (mark-read x t (field i k) (u .0) l refl refl);
             target-add = λ x t i k w u l. rw (mark-read x t (field i k) (u .0) l refl refl);
             inside = λ x j k w l m e.
-                w .refs (field (p * S + j) k) (a-field (slot-in P S (shape .some-slot) p j inp l) m) (refers-is wanted x (p * S + j) k e .0);
+                w .refs (field (p * S + j) k) (a-field (slot-in P S (shape .some-slot) p j inp l) m) (refers-is S wanted x (p * S + j) k e .0);
           }
 
       -- what the mark of a wanted target keeps, where a marked object of p refers to it
@@ -102,7 +104,7 @@ module _ (P S : ℕ) (shape : Shape P S) where
         once : (z : Image) (j k : ℕ) → j < S → k < 4 → marked z (p * S + j) ≡ true → refers S wanted z (p * S + j) k ≡ true → Q z → Q (mark S z (target S z (p * S + j) k))
         unfolding Used
         once z j k l m a e q =
-            let r = refers-is wanted z (p * S + j) k e in
+            let r = refers-is S wanted z (p * S + j) k e in
             h z (p * S + j) k (slot-in P S (shape .some-slot) p j inp l) m (part-of P S (shape .some-slot) p j l) (eqb-true _ _ a) (r .0) (r .1) (spreads .inside z j k (linked z q) l m e .0) q
 
         pub pass-marks : (x : Image) → Q x → Q (pass marked (mark S) (refers S wanted) (target S) (λ s. p * S + s) S 4 x)
@@ -126,7 +128,7 @@ module _ (P S : ℕ) (shape : Shape P S) where
 
     -- Within p: exactly the least set is marked that has p's marked objects and what p's fields inside p lead to
     within : (y : Image) (j k : ℕ) → Linked P S y → j < S → k < 4 → refers S (own S p) y (p * S + j) k ≡ true → (s : ℕ) × (s < S) × (p * S + s ≡ target S y (p * S + j) k)
-    within y j k w l m e = slot-of P S (shape .some-slot) _ p (eqb-true _ _ (refers-is (own S p) y (p * S + j) k e .1))
+    within y j k w l m e = slot-of P S (shape .some-slot) _ p (eqb-true _ _ (refers-is S (own S p) y (p * S + j) k e .1))
 
     -- a field of an object of p names an object of p
     unfoldable pub Own : Image → ℕ → ℕ → Type 0
@@ -137,7 +139,7 @@ module _ (P S : ℕ) (shape : Shape P S) where
     inside-least x w i e =
         reach-along
         (λ v t d.
-        let r = refers-is (own S p) x (p * S + d .0) (d .1) (d .5) in
+        let r = refers-is S (own S p) x (p * S + d .0) (d .1) (d .5) in
         let near : partOf S (target S x (p * S + d .0) (d .1)) ≡ p = eqb-true _ _ (r .1) in
         rw (← d .4, ← d .6) (d .1, d .3, part-of P S (shape .some-slot) p (d .0) (d .2), near, record { some = r .0; target = refl }))
         (least marked (mark S) _ (target S) (λ s. p * S + s) S 4 (Linked P S) Used (spreads (own S p)) x w i e)
@@ -150,7 +152,7 @@ module _ (P S : ℕ) (shape : Shape P S) where
         (λ v t d.
         let s = slot-of P S (shape .some-slot) v p (d .2) in
         let near : own S p (target S x v (d .0)) ≡ true = rw (d .4 .target) (eq-eqb (partOf S t) p (d .3)) in
-        (s .0, d .0, s .1, d .1, s .2, rw (s .2) (refers-so (own S p) x v (d .0) (d .4 .some) near), rw (s .2) (d .4 .target)))
+        (s .0, d .0, s .1, d .1, s .2, rw (s .2) (refers-so S (own S p) x v (d .0) (d .4 .some) near), rw (s .2) (d .4 .target)))
         r)
 
     inside-closed : (x : Image) → Linked P S x → (i k : ℕ) → k < 4 → partOf S i ≡ p → marked (inside S p x) i ≡ true → get x (field i k) ≢ 0 → partOf S (target S x i k) ≡ p
@@ -192,7 +194,7 @@ module _ (P S : ℕ) (shape : Shape P S) where
         let s = slot-of P S (shape .some-slot) i p (f .near) in
         let here : marked x (p * S + s .0) ≡ true = rw (s .2, f .two) in
         let far : foreign S p (target S x i (f .k)) ≡ true = rw (f .names .target, ne-eqb (partOf S t) p (f .far)) in
-        let edge : refers S (foreign S p) x (p * S + s .0) (f .k) ≡ true = rw (s .2) (refers-so (foreign S p) x i (f .k) (f .names .some) far) in
+        let edge : refers S (foreign S p) x (p * S + s .0) (f .k) ≡ true = rw (s .2) (refers-so S (foreign S p) x i (f .k) (f .names .some) far) in
         eqb-true _ _
         (rw (s .2, f .names .target) at
         (pass-adds marked (mark S) (refers S (foreign S p)) (target S) (λ s. p * S + s) S 4 (Linked P S) Used (spreads (foreign S p)) x (s .0) (f .k) w (s .1) (f .small) here edge))

@@ -1,5 +1,6 @@
 pub mod Image
 pub mod Spread
+pub mod Walk
 pub mod Acts
 pub mod Judge
 pub mod Questions

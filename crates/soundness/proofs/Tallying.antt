@@ -227,9 +227,6 @@ part-small S q some = omega (arith, mul-le-mul {n₁ = q} {m₁ = 1} {n₂ = q} 
 
 -- the partition of a place
 module _ (S q j : ℕ) (some : 0 < S) where
-  pub in-part : q * S ≤ j → j < q * S + S → q ≡ partOf S j
-  in-part a b = let e : q * S + (j - q * S) ≡ j = omega arith in sym (rw e at (part-of q S some q (j - q * S) (omega arith)))
-
   pub next-part : q * S + S ≤ j → j ≤ q * S + S → (q + 1 ≡ partOf S j) × ((q + 1) * S ≤ j) × (j < (q + 1) * S + S)
   next-part a b =
       let m : (q + 1) * S ≡ q * S + S = add-mul q 1 S ∙ ap (λ (v : ℕ). q * S + v) (one-mul S) in

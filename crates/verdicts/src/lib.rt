@@ -10,15 +10,14 @@ ghost use Rattle.model.specs.Acts.{opening, closing, trace, local};
 ghost use Rattle.model.specs.Judge.{judge, judgeOutlist, rooted, led};
 ghost use Rattle.loops.specs.Loop.{first};
 ghost use Rattle.image.specs.Within.{Within};
-ghost use Rattle.verdicts.specs.Searches.{astray, meets, reach};
+ghost use Rattle.verdicts.specs.Searches.{astray, strays, meets, reach};
 
-// What the judges look for: a root in use, a partition that is not clean, and a root or a field of a marked object that leads to an
-// unmarked one.
+// What the judges look for: a root in use, a partition that is not clean, and a root or a marked object that leads to an unmarked one.
 pub enum Sought {
     Rooted,
     Unclean,
     RootAstray,
-    FieldAstray,
+    SlotAstray,
 }
 
 // The fields of an object.
@@ -40,7 +39,29 @@ fn astray(img: &[u32], p: usize, s: usize, w: u32) -> bool
     true
 }
 
-// The i-th root, partition or field is one that a judge looks for.
+// A field of place j, which is marked, leads to an unmarked object.
+fn strays(img: &[u32], p: usize, s: usize, j: usize) -> bool
+    requires { ⌜ Within p s (now img) ⌝ }
+    requires { ⌜ j < p * s ⌝ }
+    ensures { λ r. ⌜ r ≡ strays s (now (img .entry)) j ⌝ }
+{
+    let at = image::FRONT + image::STRIDE * j;
+    if img[at] != 2 {
+        return false;
+    }
+    let mut k: usize = 0;
+    while k < FIELDS {
+        let w = img[at + 2 + k];
+        let a = astray(img, p, s, w);
+        if a {
+            return true;
+        }
+        k += 1;
+    }
+    false
+}
+
+// The i-th root, partition or place is one that a judge looks for.
 fn meets(img: &[u32], p: usize, s: usize, t: Sought, i: usize) -> bool
     requires { ⌜ Within p s (now img) ⌝ }
     requires { ⌜ i < reach p s t ⌝ }
@@ -60,18 +81,7 @@ fn meets(img: &[u32], p: usize, s: usize, t: Sought, i: usize) -> bool
             false
         }
         Sought::RootAstray => astray(img, p, s, img[image::ROOT + i]),
-        Sought::FieldAstray => {
-            let j = i / FIELDS;
-            if img[image::FRONT + image::STRIDE * j] != 2 {
-                return false;
-            }
-            astray(
-                img,
-                p,
-                s,
-                img[image::FRONT + image::STRIDE * j + 2 + i % FIELDS],
-            )
-        }
+        Sought::SlotAstray => strays(img, p, s, i),
     }
 }
 
@@ -114,8 +124,8 @@ fn led(img: &[u32], p: usize, s: usize) -> bool
     if r < image::ANCHORS {
         return false;
     }
-    let n = p * s * FIELDS;
-    let i = first(img, p, s, Sought::FieldAstray, n);
+    let n = p * s;
+    let i = first(img, p, s, Sought::SlotAstray, n);
     if i < n {
         return false;
     }

@@ -33,7 +33,7 @@ cast-each c = search needs
 
 -- the image after the sweep over the places
 settled : (c : tie.After-each) → Within (c .before .before .before .before .before .before .args .p) (c .before .before .before .before .before .before .args .s) (c .each .last .0)
-settled c = within-swept _ _ Slots _ _ _ (c .before .before .before .before .before .before .pre) (λ i l. l) (c .each .ensures .0)
+settled c = within-swept _ _ Slots _ _ _ (c .before .before .before .before .before .before .pre) (λ i l. l) (c .each .ensures)
 
 each-requires-2 : tie.Need-each-requires-2
 each-requires-2 c κs = (settled (c .before .before .before), λ i l. l)
@@ -56,7 +56,7 @@ returns : tie.Need-returns
 unfolding closeUp shut unclean stepOf get put addr
 returns c =
     let a = c .before .before .before .before .before .before .before .before .before .before .before .before .args in (
-      ap (λ (y : Image). set (set (set y 2 0) 3 0) 4 0) (c .before .before .each2 .ensures .0 ∙ ap (each 16 (stepOf (a .s) Flags)) (c .before .before .before .before .before .before .each .ensures .0)),
+      ap (λ (y : Image). set (set (set y 2 0) 3 0) 4 0) (c .before .before .each2 .ensures ∙ ap (each 16 (stepOf (a .s) Flags)) (c .before .before .before .before .before .before .each .ensures)),
       λ i. record { count = get (a .img .now) count; freed = c .before .before .before .before .before .before .before .before .unmarked .ensures i },
     )
 

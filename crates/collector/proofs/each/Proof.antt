@@ -4,22 +4,20 @@ use Rattle.collector.specs.Sweeps.{stepOf}
 use Rattle.image.specs.Within.{Within}
 use Rattle.loops.proofs.Turns.{each-none, each-more, each-done}
 use Rattle.loops.specs.Loop.{each}
-use mathlib.Core.Logic.{⊎-elim}
-use mathlib.Core.Bool.{false, true≢false}
-use mathlib.Core.Path.{_≡_, refl, sym, _∙_, subst}
+use mathlib.Core.Path.{_≡_, sym, _∙_, subst}
 use Prim.Native.Nat.{_≤_, _-_}
 use borrow.Author.Needs.{needs}
 use Rattle.collector.proofs.each.Statement.{statement}
 use Rattle.collector.proofs.each.Tie as tie
 
 abbrev Inv-loop : tie.InvT-loop
-Inv-loop img₀ p s what n changed₀ i₀ img changed i = (i ≤ n) × Within p s img × (img ≡ each i (stepOf s what) img₀) × (changed ≡ false → img ≡ img₀)
+Inv-loop img₀ p s what n i₀ img i = (i ≤ n) × Within p s img × (img ≡ each i (stepOf s what) img₀)
 
 abbrev μ-loop : tie.MeasureT-loop
-μ-loop img₀ p s what n changed₀ i₀ img changed i = n - i
+μ-loop img₀ p s what n i₀ img i = n - i
 
 loop-holds : tie.Need-loop-holds Inv-loop μ-loop
-loop-holds c = (search needs, c .before .pre .0, each-none _ _, λ _. refl)
+loop-holds c = (search needs, c .before .pre .0, each-none _ _)
 
 step-requires : tie.Need-step-requires Inv-loop μ-loop
 step-requires c κs = (c .before .before .loop .inv .1, c .before .before .before .before .pre .1 (c .before .before .loop .i) (c .before .loop-test .taken))
@@ -32,20 +30,19 @@ loop-less c = search needs
 
 loop-again : tie.Need-loop-again Inv-loop μ-loop
 loop-again c =
-    let a = c .before .before .before .before .before .before .before .before .args in
-    let l = c .before .before .before .before .before .before .loop in
-    let k = c .before .before .before .step in (
+    let a = c .before .before .before .before .before .before .before .args in
+    let l = c .before .before .before .before .before .loop in
+    let k = c .before .before .step in (
       search needs,
-      subst (Within (a .p) (a .s)) (sym (k .ensures .0)) (within-step (a .p) (a .s) (a .what) (l .img) (l .i) (l .inv .1) (c .before .before .before .before .before .before .before .before .pre .1 (l .i) (c .before .before .before .before .before .loop-test .taken))),
-      k .ensures .0 ∙ each-more (stepOf (a .s) (a .what)) _ (l .i) (l .img) (l .inv .2),
-      ⊎-elim (λ h. λ e. absurd (true≢false (sym (h .1) ∙ e))) (λ h. λ e. k .ensures .1 (h .0 .left) ∙ l .inv .3 (sym (h .1) ∙ e)) (c .if1 .came),
+      subst (Within (a .p) (a .s)) (sym (k .ensures)) (within-step (a .p) (a .s) (a .what) (l .img) (l .i) (l .inv .1) (c .before .before .before .before .before .before .before .pre .1 (l .i) (c .before .before .before .before .loop-test .taken))),
+      k .ensures ∙ each-more (stepOf (a .s) (a .what)) _ (l .i) (l .img) (l .inv .2),
     )
 
 same-length : tie.Need-same-length Inv-loop μ-loop
 same-length c = c .before .loop .inv .1 .long ∙ sym (c .before .before .before .pre .0 .long)
 
 returns : tie.Need-returns Inv-loop μ-loop
-returns c = (each-done _ _ _ _ _ (c .before .loop .inv .0) (c .loop-test .left) (c .before .loop .inv .2), c .before .loop .inv .3)
+returns c = each-done _ _ _ _ _ (c .before .loop .inv .0) (c .loop-test .left) (c .before .loop .inv .2)
 
 pub each-spec : {M : Type 1} → statement M
 each-spec =

@@ -4,7 +4,7 @@ use Rattle.collector.specs.Sweeps.{stepOf}
 use Rattle.collector.specs.declared.Sweep.the-variants.{Flags, Roots}
 use Rattle.model.specs.Acts.{unclean, markRoots, allow, openUp}
 use Rattle.model.specs.Image.{put, addr, phase}
-use Rattle.image.proofs.Within.{within-put, product}
+use Rattle.image.proofs.Within.{within-put, places}
 use Rattle.loops.specs.Loop.{each}
 use lib.ListN.{length-set, set}
 use native.Mathlib.Omega.{arith}
@@ -29,10 +29,10 @@ each-requires c κs = (within-put _ _ _ (c .before .before .pre) phase 1 (omega 
 cleared : (c : tie.After-each) → Within (c .before .before .before .args .p) (c .before .before .before .args .s) (c .each .last .0)
 unfolding put addr
 cleared c =
-    within-swept _ _ Flags 16 _ _ (within-put _ _ _ (c .before .before .before .pre) phase 1 (omega arith)) (λ i l. l) (c .each .ensures .0)
+    within-swept _ _ Flags 16 _ _ (within-put _ _ _ (c .before .before .before .pre) phase 1 (omega arith)) (λ i l. l) (c .each .ensures)
 
 rooted : (c : tie.After-each2) → Within (c .before .before .before .before .before .before .before .args .p) (c .before .before .before .before .before .before .before .args .s) (c .each2 .last .0)
-rooted c = within-swept _ _ Roots 16 _ _ (cleared (c .before .before .before .before)) (λ i l. l) (c .each2 .ensures .0)
+rooted c = within-swept _ _ Roots 16 _ _ (cleared (c .before .before .before .before)) (λ i l. l) (c .each2 .ensures)
 
 each-requires-2 : tie.Need-each-requires-2
 each-requires-2 c κs = (cleared (c .before .before .before), λ i l. l)
@@ -50,7 +50,7 @@ slice-write-img-2 c = omega (arith, rooted (c .before .before .before .before) .
 few : (c : tie.After-unmarked) → c .unmarked .result ≤ 1024
 few c =
     let a = c .before .before .before .before .before .before .before .before .before .before .before .args in
-    omega (arith, c .unmarked .ensures, unmarked-le (a .p * a .s) (c .before .before .before .before .each2 .last .0), product 16 (a .p) (a .s) (c .before .before .before .before .before .before .before .before .before .before .before .pre .small) (c .before .before .before .before .before .before .before .before .before .before .before .pre .wide))
+    omega (arith, c .unmarked .ensures, unmarked-le (a .p * a .s) (c .before .before .before .before .each2 .last .0), places (c .before .before .before .before .before .before .before .before .before .before .before .pre))
 
 add-img : tie.Need-add-img
 add-img c = omega (arith, few c)
@@ -71,7 +71,7 @@ unfolding openUp allow markRoots unclean stepOf put addr
 returns c =
     let a = c .before .before .before .before .before .before .before .before .before .before .before .args in
     ap (λ (n : ℕ). set (set (c .before .before .before .before .each2 .last .0) 3 0) 4 (a .p + n)) (c .unmarked .ensures)
-    ∙ ap (allow (a .p) (a .s)) (c .before .before .before .before .each2 .ensures .0 ∙ ap (each 16 (stepOf (a .s) Roots)) (c .before .before .before .before .before .before .before .before .each .ensures .0))
+    ∙ ap (allow (a .p) (a .s)) (c .before .before .before .before .each2 .ensures ∙ ap (each 16 (stepOf (a .s) Roots)) (c .before .before .before .before .before .before .before .before .each .ensures))
 
 pub open-spec : {M : Type 1} → statement M
 open-spec =

@@ -2,7 +2,6 @@
 use Rattle.collector.specs.Sweeps.{stepOf}
 use Rattle.model.specs.Image.{get, put, addr, root, a-root}
 use native.Mathlib.Omega.{arith}
-use mathlib.Core.Bool.{true≢false}
 use Prim.Native.Nat.{_<_, _*_}
 use borrow.Author.Needs.{needs}
 use Rattle.collector.proofs.step.Statement.{statement}
@@ -52,39 +51,26 @@ enum-told-3 c = search needs
 settle-requires : tie.Need-settle-requires
 settle-requires c κs = (c .before .before .before .before .pre .0, in-slots (c .before))
 
-enum-known-what : tie.Need-enum-known-what
-enum-known-what c = search needs
-
-follow-requires : tie.Need-follow-requires
-follow-requires c κs = (c .before .before .before .before .before .pre .0, rw (c .before .before .what .given .1) at (c .before .before .before .before .before .pre .1))
-
 same-length : tie.Need-same-length
 same-length c = search needs
 
 returns : tie.Need-returns
 unfolding stepOf put addr
-returns c = (rw (c .enum-told .given .1), λ e. absurd (true≢false e))
+returns c = rw (c .enum-told .given .1)
 
 same-length-2 : tie.Need-same-length-2
 same-length-2 c = search needs
 
 returns-2 : tie.Need-returns-2
 unfolding stepOf get addr
-returns-2 c = (rw (c .before .before .before .before .before .enum-told2 .given .1) (c .before .before .mark-word .ensures), λ e. absurd (true≢false e))
+returns-2 c = rw (c .before .before .before .before .before .enum-told2 .given .1) (c .before .before .mark-word .ensures)
 
 same-length-3 : tie.Need-same-length-3
 same-length-3 c = search needs
 
 returns-3 : tie.Need-returns-3
 unfolding stepOf
-returns-3 c = (rw (c .before .before .before .before .enum-told3 .given .1) (c .before .before .settle .ensures), λ e. absurd (true≢false e))
-
-same-length-4 : tie.Need-same-length-4
-same-length-4 c = search needs
-
-returns-4 : tie.Need-returns-4
-unfolding stepOf
-returns-4 c = (rw (c .before .before .before .before .before .what .given .1) (c .before .before .follow .ensures .0), c .before .before .follow .ensures .1)
+returns-3 c = rw (c .before .before .before .before .enum-told3 .given .1) (c .before .before .settle .ensures)
 
 pub step-spec : {M : Type 1} → statement M
 step-spec =
@@ -101,13 +87,9 @@ step-spec =
     mark-word-requires
     enum-told-3
     settle-requires
-    enum-known-what
-    follow-requires
     same-length
     returns
     same-length-2
     returns-2
     same-length-3
-    returns-3
-    same-length-4
-    returns-4)
+    returns-3)

@@ -1,8 +1,9 @@
 -- `locals::free` meets its contract. Assumes nothing.
 use Rattle.locals.proofs.Freeing.{within-settle}
-use Rattle.locals.proofs.Leading.{places, slot-small}
+use Rattle.image.proofs.Within.{places}
+use Rattle.locals.proofs.Owning.{slot-small}
 use Rattle.image.specs.Within.{Within}
-use Rattle.locals.specs.Todo.{settleOf}
+use Rattle.locals.specs.Slots.{settleOf}
 use Rattle.loops.proofs.Turns.{each-none, each-more, each-done}
 use Rattle.loops.specs.Loop.{each}
 use lib.ListN.{length}

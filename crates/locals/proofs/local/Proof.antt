@@ -1,5 +1,4 @@
 -- `locals::local` meets its contract. Assumes nothing.
-use Rattle.locals.proofs.Noting.{todo-first}
 use Rattle.locals.proofs.Freeing.{freed, number}
 use mathlib.Core.Path.{_∙_}
 use borrow.Author.Needs.{needs}
@@ -9,11 +8,8 @@ use Rattle.locals.proofs.local.Tie as tie
 zeros-requires : tie.Need-zeros-requires
 zeros-requires c κs = search needs
 
-zeros-requires-2 : tie.Need-zeros-requires-2
-zeros-requires-2 c κs = search needs
-
-spread-requires : tie.Need-spread-requires
-spread-requires c κs = (c .before .before .before .before .before .before .pre .0, (c .before .before .before .before .before .before .pre .1, todo-first _ _ _ (c .before .before .before .before .zeros .ensures) (c .before .before .before .zeros2 .ensures)))
+keep-requires : tie.Need-keep-requires
+keep-requires c κs = search needs
 
 lost-requires : tie.Need-lost-requires
 lost-requires c κs = search needs
@@ -25,16 +21,7 @@ same-length : tie.Need-same-length
 same-length c = search needs
 
 returns : tie.Need-returns
-returns c = (c .before .before .free .ensures ∙ freed (c .before .before .before .before .before .before .before .before .before .before .before .before .before .before .before .pre .0) _ (c .before .before .before .before .before .before .before .before .before .before .before .before .before .before .before .pre .1) (c .before .before .before .before .before .before .before .before .spread .ensures), c .before .before .before .before .before .lost .ensures ∙ number (c .before .before .before .before .before .before .before .before .before .before .before .before .before .before .before .pre .0) _ (c .before .before .before .before .before .before .before .before .before .before .before .before .before .before .before .pre .1) (c .before .before .before .before .before .before .before .before .spread .ensures))
+returns c = (c .before .before .free .ensures ∙ freed _ _ _ _ _ (c .before .before .before .before .before .before .before .before .keep .ensures), c .before .before .before .before .before .lost .ensures ∙ number _ _ _ _ _ (c .before .before .before .before .before .before .before .before .keep .ensures))
 
 pub local-spec : {M : Type 1} → statement M
-local-spec =
-    tie.close
-    (tie.spec
-    zeros-requires
-    zeros-requires-2
-    spread-requires
-    lost-requires
-    free-requires
-    same-length
-    returns)
+local-spec = tie.close (tie.spec zeros-requires keep-requires lost-requires free-requires same-length returns)

@@ -2,7 +2,7 @@
 use Rattle.loops.proofs.Turns.{tally-none, tally-more, tally-done}
 use Rattle.loops.proofs.Tests.{bit-le}
 use Rattle.loops.specs.Loop.{tally}
-use Rattle.locals.specs.Todo.{lostAt}
+use Rattle.locals.specs.Slots.{lostAt}
 use mathlib.Core.Path.{_≡_, ap, _∙_}
 use Prim.Native.Nat.{ℕ, _+_, _≤_, _-_}
 use native.Mathlib.Omega.{arith}

@@ -1,6 +1,7 @@
 -- `locals::lost_at` meets its contract. Assumes nothing.
 use Rattle.locals.proofs.Freeing.{lost-noted, lost-free, lost-one}
-use Rattle.locals.proofs.Leading.{places, slot-small}
+use Rattle.image.proofs.Within.{places}
+use Rattle.locals.proofs.Owning.{slot-small}
 use mathlib.Core.Path.{refl, sym}
 use native.Mathlib.Omega.{arith}
 use Rattle.locals.proofs.lost_at.Statement.{statement}

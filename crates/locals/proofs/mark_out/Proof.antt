@@ -1,6 +1,6 @@
 -- `locals::mark_out` meets its contract. Assumes nothing.
 use Rattle.locals.proofs.Outing.{out-in, out-free, out-nothing, out-place, out-own, out-far}
-use Rattle.locals.proofs.Leading.{places}
+use Rattle.image.proofs.Within.{places}
 use native.Mathlib.Omega.{arith}
 use borrow.Author.Needs.{needs}
 use Rattle.locals.proofs.mark_out.Statement.{statement}
@@ -51,20 +51,20 @@ returns-2 c = out-nothing (c .before .before .before .before .before .pre .0) _ 
 place-of-requires : tie.Need-place-of-requires
 place-of-requires c κs = search needs
 
-div-if3 : tie.Need-div-if3
-div-if3 c = search needs
+part-of-requires : tie.Need-part-of-requires
+part-of-requires c κs = (c .before .before .before .before .before .before .pre .0 .some-slot, c .before .before .before .before .before .before .pre .0 .wide)
 
 returns-3 : tie.Need-returns-3
-returns-3 c = out-own (c .before .before .before .before .before .before .before .pre .0) _ (c .before .before .before .before .before .before .before .pre .1 .0) _ (c .before .before .before .before .before .before .before .pre .1 .1) (c .before .before .before .before .before .before .before .args .bits .now) (c .before .before .before .before .before .before .before .pre .1 .2) (c .before .before .before .before .if1 .left) (c .before .before .if2 .left) _ (c .before .place-of .ensures) (omega arith)
+returns-3 c = out-own (c .before .before .before .before .before .before .before .before .pre .0) _ (c .before .before .before .before .before .before .before .before .pre .1 .0) _ (c .before .before .before .before .before .before .before .before .pre .1 .1) (c .before .before .before .before .before .before .before .before .args .bits .now) (c .before .before .before .before .before .before .before .before .pre .1 .2) (c .before .before .before .before .before .if1 .left) (c .before .before .before .if2 .left) _ (c .before .before .place-of .ensures) _ (c .before .part-of .ensures) (c .if3 .taken)
 
 mul-bits : tie.Need-mul-bits
-mul-bits c = omega (arith, out-place (c .before .before .before .before .before .before .before .pre .0) _ (c .before .before .before .before .before .before .before .pre .1 .0) _ (c .before .before .before .before .before .before .before .pre .1 .1) (c .before .before .before .before .before .before .before .args .bits .now) (c .before .before .before .before .before .before .before .pre .1 .2) (c .before .before .before .before .if1 .left) (c .before .before .if2 .left) _ (c .before .place-of .ensures))
+mul-bits c = omega (arith, out-place (c .before .before .before .before .before .before .before .before .pre .0) _ (c .before .before .before .before .before .before .before .before .pre .1 .0) _ (c .before .before .before .before .before .before .before .before .pre .1 .1) (c .before .before .before .before .before .before .before .before .args .bits .now) (c .before .before .before .before .before .before .before .before .pre .1 .2) (c .before .before .before .before .before .if1 .left) (c .before .before .before .if2 .left) _ (c .before .before .place-of .ensures))
 
 element-write-bits : tie.Need-element-write-bits
-element-write-bits c = out-place (c .before .before .before .before .before .before .before .pre .0) _ (c .before .before .before .before .before .before .before .pre .1 .0) _ (c .before .before .before .before .before .before .before .pre .1 .1) (c .before .before .before .before .before .before .before .args .bits .now) (c .before .before .before .before .before .before .before .pre .1 .2) (c .before .before .before .before .if1 .left) (c .before .before .if2 .left) _ (c .before .place-of .ensures)
+element-write-bits c = out-place (c .before .before .before .before .before .before .before .before .pre .0) _ (c .before .before .before .before .before .before .before .before .pre .1 .0) _ (c .before .before .before .before .before .before .before .before .pre .1 .1) (c .before .before .before .before .before .before .before .before .args .bits .now) (c .before .before .before .before .before .before .before .before .pre .1 .2) (c .before .before .before .before .before .if1 .left) (c .before .before .before .if2 .left) _ (c .before .before .place-of .ensures)
 
 returns-4 : tie.Need-returns-4
-returns-4 c = out-far (c .before .before .before .before .before .before .before .pre .0) _ (c .before .before .before .before .before .before .before .pre .1 .0) _ (c .before .before .before .before .before .before .before .pre .1 .1) (c .before .before .before .before .before .before .before .args .bits .now) (c .before .before .before .before .before .before .before .pre .1 .2) (c .before .before .before .before .if1 .left) (c .before .before .if2 .left) _ (c .before .place-of .ensures) (λ z. omega arith)
+returns-4 c = out-far (c .before .before .before .before .before .before .before .before .pre .0) _ (c .before .before .before .before .before .before .before .before .pre .1 .0) _ (c .before .before .before .before .before .before .before .before .pre .1 .1) (c .before .before .before .before .before .before .before .before .args .bits .now) (c .before .before .before .before .before .before .before .before .pre .1 .2) (c .before .before .before .before .before .if1 .left) (c .before .before .before .if2 .left) _ (c .before .before .place-of .ensures) _ (c .before .part-of .ensures) (c .if3 .left)
 
 pub mark-out-spec : {M : Type 1} → statement M
 mark-out-spec =
@@ -85,7 +85,7 @@ mark-out-spec =
     shared-slice-read-w
     returns-2
     place-of-requires
-    div-if3
+    part-of-requires
     returns-3
     mul-bits
     element-write-bits

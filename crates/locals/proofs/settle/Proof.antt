@@ -1,6 +1,6 @@
 -- `locals::settle` meets its contract. Assumes nothing.
 use Rattle.locals.proofs.Freeing.{settle-noted, settle-lost}
-use Rattle.locals.proofs.Leading.{places}
+use Rattle.image.proofs.Within.{places}
 use native.Mathlib.Omega.{arith}
 use borrow.Author.Needs.{needs}
 use Rattle.locals.proofs.settle.Statement.{statement}

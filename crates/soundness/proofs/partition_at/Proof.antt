@@ -1,5 +1,7 @@
 -- `soundness::partition_at` meets its contract. Assumes nothing.
-use Rattle.soundness.proofs.Tallying.{part-small, in-part, next-part}
+use Rattle.soundness.proofs.Tallying.{part-small, next-part}
+use Rattle.model.proofs.Places.{row-part}
+use mathlib.Core.Path.{sym}
 use native.Mathlib.Omega.{arith}
 use borrow.Author.Needs.{needs}
 use Rattle.soundness.proofs.partition_at.Statement.{statement}
@@ -12,7 +14,7 @@ add-if1 : tie.Need-add-if1
 add-if1 c = omega (arith, c .pre .2, c .pre .4, c .pre .1)
 
 returns : tie.Need-returns
-returns c = (in-part _ _ _ (c .before .pre .0) (c .before .pre .2) (c .if1 .taken), c .before .pre .2, c .if1 .taken)
+returns c = (sym (row-part _ _ _ (c .before .pre .0) (c .before .pre .2) (c .if1 .taken)), c .before .pre .2, c .if1 .taken)
 
 add-result : tie.Need-add-result
 add-result c = omega (arith, part-small _ (c .before .args .q) (c .before .pre .0), c .before .pre .2, c .before .pre .4)

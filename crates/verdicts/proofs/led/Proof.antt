@@ -1,5 +1,5 @@
 -- `verdicts::led` meets its contract. Assumes nothing.
-use Rattle.verdicts.proofs.Searches.{led-root, led-field, led-so}
+use Rattle.verdicts.proofs.Searches.{led-root, led-slot, led-so}
 use mathlib.Core.Path.{sym}
 use borrow.Author.Needs.{needs}
 use Rattle.verdicts.proofs.led.Statement.{statement}
@@ -14,18 +14,15 @@ returns c = sym (led-root _ _ _ (search needs))
 mul-n : tie.Need-mul-n
 mul-n c = search needs
 
-mul-n-2 : tie.Need-mul-n-2
-mul-n-2 c = search needs
-
 first-requires-2 : tie.Need-first-requires-2
 first-requires-2 c κs = search needs
 
 returns-2 : tie.Need-returns-2
-returns-2 c = sym (led-field _ _ _ (search needs))
+returns-2 c = sym (led-slot _ _ _ (search needs))
 
 returns-3 : tie.Need-returns-3
 returns-3 c = sym (led-so _ _ _ (search needs) (search needs))
 
 pub led-spec : {M : Type 1} → statement M
 led-spec =
-    tie.close (tie.spec first-requires returns mul-n mul-n-2 first-requires-2 returns-2 returns-3)
+    tie.close (tie.spec first-requires returns mul-n first-requires-2 returns-2 returns-3)

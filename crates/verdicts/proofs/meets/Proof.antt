@@ -1,8 +1,8 @@
 -- `verdicts::meets` meets its contract. Assumes nothing.
 use Rattle.verdicts.specs.Searches.{astray, meets}
-use Rattle.model.specs.Image.{get, addr, root, field, a-root, a-field}
+use Rattle.model.specs.Image.{get, addr, root, a-root}
 use native.Mathlib.Omega.{arith}
-use Prim.Native.Nat.{_<_, _*_, _/_, _%_}
+use Prim.Native.Nat.{_<_}
 use borrow.Author.Tests.{eq-eqb, ne-eqb}
 use borrow.Author.Needs.{needs}
 use Rattle.verdicts.proofs.meets.Statement.{statement}
@@ -17,9 +17,6 @@ in-flags c = rw (c .enum-told2 .given .1) at (c .before .before .before .pre .1)
 
 in-anchors : (c : tie.After-enum-told3) → c .before .before .before .args .i < 16
 in-anchors c = rw (c .enum-told3 .given .1) at (c .before .before .before .pre .1)
-
-in-fields : (c : tie.After-enum-told4) → c .before .before .before .args .i < c .before .before .before .args .p * c .before .before .before .args .s * 4
-in-fields c = rw (c .enum-told4 .given .1) at (c .before .before .before .pre .1)
 
 enum-told : tie.Need-enum-told
 enum-told c = search needs
@@ -72,61 +69,24 @@ astray-requires c κs = (c .before .before .before .before .pre .0, c .before .b
 enum-told-4 : tie.Need-enum-told-4
 enum-told-4 c = search needs
 
-mul-if3 : tie.Need-mul-if3
-mul-if3 c = omega (arith, in-fields c)
-
-add-if3 : tie.Need-add-if3
-add-if3 c = omega (arith, in-fields c)
-
-mul-if3-2 : tie.Need-mul-if3-2
-mul-if3-2 c = omega (arith, in-fields c)
-
-shared-slice-read-if3 : tie.Need-shared-slice-read-if3
-shared-slice-read-if3 c = omega (arith, in-fields (c .before))
+strays-requires : tie.Need-strays-requires
+strays-requires c κs = (c .before .before .before .pre .0, rw (c .enum-told4 .given .1) at (c .before .before .before .pre .1))
 
 returns-3 : tie.Need-returns-3
 unfolding meets get addr
-returns-3 c = rw (c .before .before .enum-told4 .given .1, ne-eqb _ _ (c .if3 .taken))
-
-mul-astray-2 : tie.Need-mul-astray-2
-mul-astray-2 c = omega (arith, in-fields (c .before .before))
-
-add-astray-2 : tie.Need-add-astray-2
-add-astray-2 c = omega (arith, in-fields (c .before .before))
-
-add-astray-3 : tie.Need-add-astray-3
-add-astray-3 c = omega (arith, in-fields (c .before .before))
-
-add-astray-4 : tie.Need-add-astray-4
-add-astray-4 c = omega (arith, in-fields (c .before .before))
-
-mul-astray-3 : tie.Need-mul-astray-3
-mul-astray-3 c = omega (arith, in-fields (c .before .before))
-
-shared-slice-read-astray-2 : tie.Need-shared-slice-read-astray-2
-shared-slice-read-astray-2 c = omega (arith, in-fields (c .before .before .before))
-
-astray-requires-2 : tie.Need-astray-requires-2
-unfolding get addr
-astray-requires-2 c κs =
-    let i = c .before .before .before .before .before .before .args .i in
-    (c .before .before .before .before .before .before .pre .0, c .before .before .before .before .before .before .pre .0 .refs (field (i / 4) (i % 4)) (a-field (omega (arith, in-fields (c .before .before .before))) (omega arith)))
+returns-3 c = rw (c .before .before .enum-told .given .1, ne-eqb _ _ (c .if1 .left))
 
 returns-4 : tie.Need-returns-4
 unfolding meets get addr
-returns-4 c = rw (c .before .before .enum-told .given .1, ne-eqb _ _ (c .if1 .left))
+returns-4 c = rw (c .before .before .enum-told2 .given .1, ne-eqb _ _ (c .if2 .left))
 
 returns-5 : tie.Need-returns-5
-unfolding meets get addr
-returns-5 c = rw (c .before .before .enum-told2 .given .1, ne-eqb _ _ (c .if2 .left))
+unfolding meets astray get addr
+returns-5 c = rw (c .before .before .enum-told3 .given .1) (c .astray .ensures)
 
 returns-6 : tie.Need-returns-6
-unfolding meets astray get addr
-returns-6 c = rw (c .before .before .enum-told3 .given .1) (c .astray .ensures)
-
-returns-7 : tie.Need-returns-7
-unfolding meets astray get addr
-returns-7 c = rw (c .before .before .before .before .enum-told4 .given .1, eq-eqb _ _ (c .before .before .if3 .left)) (c .astray2 .ensures)
+unfolding meets
+returns-6 c = rw (c .before .enum-told4 .given .1) (c .strays .ensures)
 
 pub meets-spec : {M : Type 1} → statement M
 meets-spec =
@@ -148,19 +108,8 @@ meets-spec =
     shared-slice-read-astray
     astray-requires
     enum-told-4
-    mul-if3
-    add-if3
-    mul-if3-2
-    shared-slice-read-if3
+    strays-requires
     returns-3
-    mul-astray-2
-    add-astray-2
-    add-astray-3
-    add-astray-4
-    mul-astray-3
-    shared-slice-read-astray-2
-    astray-requires-2
     returns-4
     returns-5
-    returns-6
-    returns-7)
+    returns-6)

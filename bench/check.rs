@@ -1,0 +1,224 @@
+//! All sides give the same answers: on the report's logs, on cut and altered ones, and call by call on random heaps.
+use crate::archive::{sides, Transaction};
+use crate::catalogue::{Name, Operation, Refusal, FLAGS, FRONT, STRIDE};
+use crate::heaps::{self, Random};
+use std::fmt::Debug;
+
+/// The common answer of all sides, each with its own image and log, which agree afterwards too.
+struct Lent {
+    images: Vec<Vec<u32>>,
+    logs: Vec<Vec<u8>>,
+}
+
+impl Lent {
+    fn new(words: usize, bytes: usize) -> Self {
+        let n = sides().len();
+        Lent { images: vec![vec![0; words]; n], logs: vec![vec![46; bytes]; n] }
+    }
+
+    fn image(&self) -> &[u32] {
+        &self.images[0]
+    }
+
+    /// The same change to every image.
+    fn bend(&mut self, f: impl FnOnce(&mut [u32])) {
+        f(&mut self.images[0]);
+        let (first, rest) = self.images.split_at_mut(1);
+        rest.iter_mut().for_each(|img| img.copy_from_slice(&first[0]));
+    }
+
+    /// A call by every side: `f` is given the side's number.
+    fn all<T: PartialEq + Debug>(&mut self, what: &str, mut f: impl FnMut(usize, &mut [u32], &mut [u8]) -> T) -> T {
+        let mut answers: Vec<T> = Vec::new();
+        for (k, (img, log)) in self.images.iter_mut().zip(&mut self.logs).enumerate() {
+            answers.push(f(k, img, log));
+        }
+        for k in 1..answers.len() {
+            assert_eq!(answers[0], answers[k], "{what} by {}", sides()[k].name());
+            assert!(self.images[0] == self.images[k], "image after {what} by {}", sides()[k].name());
+            assert!(self.logs[0] == self.logs[k], "log after {what} by {}", sides()[k].name());
+        }
+        answers.swap_remove(0)
+    }
+}
+
+/// All recover a log into words of a length, which hold something else on each side.
+fn recovered(log: &[u8], words: usize) -> (Result<usize, Refusal>, Vec<u32>) {
+    let mut lent = Lent::new(words, 0);
+    for (k, img) in lent.images.iter_mut().enumerate() {
+        img.fill(7 + k as u32);
+    }
+    let what = format!("recovery of {:?}", String::from_utf8_lossy(log));
+    let answer = lent.all(&what, |k, img, _| sides()[k].recover(img, log));
+    (answer, lent.images.swap_remove(0))
+}
+
+/// The length that a log's heading asks for, if it has one.
+fn words_of(log: &[u8]) -> usize {
+    let text = String::from_utf8_lossy(log);
+    let fields: Vec<&str> = text.lines().next().unwrap_or("").split('\t').collect();
+    match fields[..] {
+        ["heap", "1" | "2", p, s] => {
+            let n = |x: &str| x.parse().unwrap_or(1usize).min(100);
+            FRONT + STRIDE * n(p) * n(s)
+        }
+        _ => 93,
+    }
+}
+
+/// The report on a log (docs/RULES.md).
+fn report(log: &[u8]) -> String {
+    if log.len() > 32768 {
+        return "toolong\n".into();
+    }
+    let (answer, img) = recovered(log, words_of(log));
+    match answer {
+        Err(r) => format!("answer {}\nline {}\n", r.number, r.extra),
+        Ok(kept) => {
+            let s = img[1] as usize;
+            let objects = img[FRONT..].chunks(STRIDE).enumerate().filter(|(_, slot)| slot[0] != 0);
+            let lines = objects.map(|(j, slot)| format!("object {} {} {}\n", j / s, j % s, slot[1]));
+            format!("answer 0\nkept {kept}\nphase {}\n", img[2]) + &lines.collect::<String>()
+        }
+    }
+}
+
+/// A log cut at random, and up to two of its bytes altered.
+fn altered(r: &mut Random, log: &[u8]) -> Vec<u8> {
+    let mut bad = log.to_vec();
+    bad.truncate(r.below(log.len() + 1));
+    for _ in 0..r.below(3) {
+        if !bad.is_empty() {
+            let at = r.below(bad.len());
+            bad[at] = r.pick(b"\n\t0123456789newsetclrvalrootunrootendopentracecloselocalheap ");
+        }
+    }
+    bad
+}
+
+pub fn reports(folder: &str) {
+    let mut r = Random::new(5);
+    let (mut logs, mut others) = (0, 0);
+    for entry in std::fs::read_dir(folder).unwrap() {
+        let path = entry.unwrap().path();
+        if path.extension().map_or(true, |e| e != "log") {
+            continue;
+        }
+        let log = std::fs::read(&path).unwrap();
+        let want = std::fs::read_to_string(path.with_extension("report")).unwrap();
+        assert_eq!(report(&log), want, "{path:?}");
+        logs += 1;
+        for words in [0, 36, 37, 93, heaps::WORDS] {
+            let _ = recovered(&log, words);
+        }
+        for _ in 0..if log.len() > 32768 { 0 } else { 200 } {
+            let _ = recovered(&altered(&mut r, &log), words_of(&log));
+            others += 1;
+        }
+    }
+    println!("recovery: {logs} logs of {folder} agree with their reports and in every word, {others} cut or altered ones agree");
+}
+
+/// Any operation, its numbers sometimes too large.
+fn any_operation(r: &mut Random, p: usize, s: usize) -> Operation {
+    let big = |r: &mut Random, n: usize| {
+        if r.below(40) == 0 {
+            return r.next() as u32;
+        }
+        let more = r.below(30) / 29;
+        r.below(n + more) as u32
+    };
+    let name = |r: &mut Random| Name { partition: big(r, p), slot: big(r, s) };
+    match r.below(6) {
+        0 | 1 => Operation::New(name(r), r.next() as u32),
+        2 => {
+            let (n, k, t) = (name(r), big(r, 4), name(r));
+            Operation::Set(n, k, (r.below(4) > 0).then_some(t))
+        }
+        3 => Operation::Val(name(r), r.next() as u32),
+        _ => {
+            let (k, t) = (big(r, 16), name(r));
+            Operation::Root(k, (r.below(6) > 0).then_some(t))
+        }
+    }
+}
+
+/// A transaction that is often accepted, or any operations, perhaps too many or none.
+fn any_transaction(r: &mut Random, img: &[u32], p: usize, s: usize) -> Transaction {
+    let sound = crate::catalogue::read(img, Name { partition: p as u32, slot: 0 }) != Err(Refusal { number: 1, extra: 0 });
+    if sound && (p, s) == (heaps::P, heaps::S) && r.below(2) == 0 {
+        let n = 1 + r.below(33);
+        return Transaction::new(heaps::transaction(r, img, n, 10));
+    }
+    let n = if r.below(2) == 0 { 1 + r.below(3) } else { r.below(35) };
+    Transaction::new((0..n).map(|_| any_operation(r, p, s)).collect())
+}
+
+/// Images that calls alone do not come to: perhaps not sound; or sound, with the count at the allowance, or all clean and a mark taken away.
+fn any_image(r: &mut Random, lent: &mut Lent, p: usize, s: usize) {
+    if r.below(150) == 0 {
+        let (i, v) = (r.below(lent.image().len()), r.below(70) as u32);
+        lent.bend(|img| img[i] = v);
+    }
+    if lent.image()[2] == 1 && r.below(12) == 0 {
+        let (spent, at) = (r.below(2) == 0, FRONT + STRIDE * r.below(p * s));
+        lent.bend(|img| match spent {
+            true => img[3] = img[4],
+            false => {
+                img[FLAGS][..p].fill(1);
+                img[at] = img[at].min(1);
+            }
+        });
+    }
+}
+
+/// The length of the record of a call and its number, 0 where it is accepted.
+fn outcome<T>(answer: Result<T, Refusal>, length: impl Fn(T) -> usize) -> (usize, u32) {
+    match answer {
+        Ok(x) => (length(x), 0),
+        Err(r) => (0, r.number),
+    }
+}
+
+/// A random call by all sides, its record at a place.
+fn any_call(r: &mut Random, lent: &mut Lent, p: usize, s: usize, at: usize) -> (usize, u32) {
+    let more = r.below(12) / 11;
+    let q = r.below(p + more) as u32;
+    let n = Name { partition: q, slot: r.below(s) as u32 };
+    match r.below(16) {
+        0..=4 => {
+            let t = any_transaction(r, lent.image(), p, s);
+            outcome(lent.all(&format!("commit of {:?}", t.ops), |k, img, log| sides()[k].commit(img, &t, log, at)), |n| n)
+        }
+        5 => outcome(lent.all("open", |k, img, log| sides()[k].open(img, log, at)), |n| n),
+        6..=8 => {
+            let q = if r.below(2) == 0 { heaps::unclean(lent.image()).unwrap_or(0) as u32 } else { q };
+            outcome(lent.all("trace", |k, img, log| sides()[k].trace(img, q, log, at)), |n| n)
+        }
+        9 => outcome(lent.all("close", |k, img, log| sides()[k].close(img, log, at)), |c| c.length),
+        10 | 11 => outcome(lent.all("local", |k, img, log| sides()[k].local(img, q, log, at)), |f| f.length),
+        12 => outcome(lent.all("outlist", |k, img, _| sides()[k].outlist(img, q)), |_| 0),
+        13 => outcome(lent.all("read", |k, img, _| sides()[k].read(img, n)), |_| 0),
+        _ => outcome(lent.all("ask", |k, img, _| sides()[k].ask(img, n)), |_| 0),
+    }
+}
+
+/// Heaps of several sizes, sixty calls on each, and the recovery of its log.
+pub fn calls(heaps: usize) {
+    let mut r = Random::new(11);
+    let mut tally = [0usize; 18];
+    for _ in 0..heaps {
+        let (p, s) = r.pick(&[(1, 1), (2, 4), (3, 5), (16, 64), (4, 64)]);
+        let mut lent = Lent::new(FRONT + STRIDE * p * s, 20000);
+        let mut at = lent.all("format", |k, img, log| sides()[k].format(img, p as u32, s as u32, log, 0)).unwrap();
+        for _ in 0..60 {
+            any_image(&mut r, &mut lent, p, s);
+            let place = if r.below(40) == 0 { 19990 + r.below(20) } else { at };
+            let (length, number) = any_call(&mut r, &mut lent, p, s, place);
+            tally[number as usize] += 1;
+            at += length;
+        }
+        let _ = recovered(&lent.logs[0][..at], lent.image().len());
+    }
+    println!("calls: {} agree in answer, image and log; accepted and refused by number: {tally:?}", 60 * heaps);
+}

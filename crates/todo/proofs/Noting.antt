@@ -1,0 +1,119 @@
+-- Laws of noting: a place is noted in what room there is, a word if it names one of the places, a row word by word.
+-- Assumes nothing.
+use Prim.Native.Nat.{ℕ, _+_, _*_, _-_, _≤_, _<_}
+use mathlib.Core.Path.{_≡_, refl, sym, _∙_}
+use mathlib.Core.Bool.{true, false, not}
+use mathlib.Core.Logic.{_≢_}
+use mathlib.Core.List.{List}
+use native.Mathlib.Omega.{arith}
+use lib.Dec.{eqb, ltb}
+use lib.ListN.{length, getD, set, replicate, length-set, length-replicate}
+use borrow.Author.Tests.{lt-ltb, le-ltb, eq-eqb, ne-eqb}
+use Rattle.loops.specs.Loop.{each}
+use Rattle.loops.proofs.Tests.{is-false, both-false}
+use Rattle.loops.proofs.Turns.{each-none, each-more, each-done}
+use Rattle.model.specs.Image.{Image, front, stride, addr, get, placeOf}
+use Rattle.model.specs.Walk.{Todo}
+use Rattle.model.specs.Questions.{Bits, hasBit, addBit}
+use Rattle.model.specs.Outlist.{mostPlaces}
+use Rattle.model.proofs.Bits.{Wide, none-has, bit-same, bit-other, bit-had}
+use Rattle.model.proofs.Walking.{longer-none, longer-one, longer-then, todo-none, todo-most, todo-more}
+use Rattle.todo.specs.Notes.{noteWord, noteRow, noteFields, Noted, More}
+
+-- at first nothing is noted
+pub noted-none : {lo n : ℕ} (marks : Bits) (list : List ℕ) → marks ≡ replicate mostPlaces 0 → list ≡ replicate mostPlaces 0 → lo + n ≤ mostPlaces → Noted lo n marks list 0
+noted-none {lo} {n} marks list e q fit =
+    let long : length list ≡ mostPlaces = rw q (length-replicate {A = ℕ} mostPlaces 0) in
+    record {
+      wide = rw e (length-replicate {A = ℕ} mostPlaces 0);
+      long = long;
+      fit = fit;
+      todo = todo-none hasBit (λ i. lo + i) n marks list (omega arith) (λ j l. rw e (is-false _ (none-has mostPlaces (lo + j))));
+    }
+
+module _ {lo n : ℕ} {marks : Bits} {list : List ℕ} {m : ℕ} (t : Noted lo n marks list m) where
+  pub noted-most : m ≤ mostPlaces
+  noted-most = omega (arith, t .fit, todo-most hasBit (λ i. lo + i) (t .todo))
+
+  pub more-none : More lo n list m marks list m
+  more-none = record { noted = t; longer = longer-none list m }
+
+  -- a place of them is entered: nothing changes where it is marked,
+  module _ (j : ℕ) (within : (lo ≤ j) × (j < lo + n)) where
+    pub enter-old : getD marks j 0 ≡ 1 → (marks ≡ addBit marks j) × More lo n list m marks list m
+    unfolding hasBit
+    enter-old e = (sym (bit-had mostPlaces marks j (eq-eqb _ _ e)), more-none)
+
+    -- else there is room, and it is at the list's end
+    module _ (new : getD marks j 0 ≢ 1) where
+      unmarked : hasBit marks j ≡ false
+      unfolding hasBit
+      unmarked = ne-eqb _ _ new
+
+      marked : hasBit (addBit marks j) j ≡ true
+      unfolding Wide
+      marked = bit-same mostPlaces marks j (t .wide) (omega (arith, t .fit))
+
+      listed : Todo hasBit (λ i. lo + i) n (addBit marks j) (set list m j) (m + 1)
+      listed = todo-more hasBit (λ i. lo + i) (t .todo) (addBit marks j) j (λ i ne. bit-other mostPlaces marks j i ne) (λ i k l h q. omega arith) (j - lo) (omega arith) (omega arith) unmarked marked
+
+      pub enter-room : m < mostPlaces
+      enter-room = omega (arith, t .fit, todo-most hasBit (λ i. lo + i) listed)
+
+      pub enter-new : (set marks j 1 ≡ addBit marks j) × More lo n list m (set marks j 1) (set list m j) (m + 1)
+      unfolding addBit
+      enter-new = (
+        refl,
+        record {
+          noted = record { wide = length-set marks j 1 ∙ t .wide; long = length-set list m j ∙ t .long; fit = t .fit; todo = listed };
+          longer = longer-one list m j (omega (arith, enter-room, t .long));
+        },
+      )
+
+pub more-then : {lo n : ℕ} {a b c b' c' : List ℕ} {x y z : ℕ} → More lo n a x b' b y → More lo n b y c' c z → More lo n a x c' c z
+more-then p q = record { noted = q .noted; longer = longer-then (p .longer) (q .longer) }
+
+-- a word is noted: it names nothing, a place out of range, or one of the places
+module _ (S lo n w : ℕ) (b : Bits) where
+  pub note-nothing : w ≡ 0 → b ≡ noteWord S lo n w b
+  unfolding noteWord
+  note-nothing e = rw (eq-eqb w 0 e)
+
+  module _ (j : ℕ) (e : j ≡ placeOf S w) where
+    pub word-below : j < lo → b ≡ noteWord S lo n w b
+    unfolding noteWord
+    word-below h = rw (← e, lt-ltb j lo h, both-false (not (eqb w 0)))
+
+    pub word-past : lo + n ≤ j → b ≡ noteWord S lo n w b
+    unfolding noteWord
+    word-past h = rw (← e, le-ltb j (lo + n) h, both-false (not (ltb j lo)), both-false (not (eqb w 0)))
+
+    pub word-in : w ≢ 0 → lo ≤ j → j < lo + n → addBit b j ≡ noteWord S lo n w b
+    unfolding noteWord
+    word-in ne h k = rw (← e, ne-eqb w 0 ne, le-ltb j lo h, lt-ltb j (lo + n) k)
+
+-- a row, word by word
+module _ (S lo n : ℕ) (img : Image) (from : ℕ) (b : Bits) where
+  pub row-none : b ≡ noteRow S lo n img from 0 b
+  unfolding noteRow
+  row-none = each-none _ b
+
+  pub row-more : (k : ℕ) {c d : Bits} → c ≡ noteRow S lo n img from k b → d ≡ noteWord S lo n (getD img (from + k) 0) c → d ≡ noteRow S lo n img from (k + 1) b
+  unfolding noteRow
+  row-more k {c} e q = q ∙ each-more _ b k c e
+
+  pub row-done : (count k : ℕ) {c : Bits} → k ≤ count → count ≤ k → c ≡ noteRow S lo n img from k b → c ≡ noteRow S lo n img from count b
+  unfolding noteRow
+  row-done count k {c} h g e = each-done _ b count k c h g e
+
+-- the four fields, one by one, at the addresses a1 to a4
+pub fields-all : (S lo n : ℕ) (img : Image) (j a1 a2 a3 a4 : ℕ) (b : Bits) {c d e f : Bits} → a1 ≡ front + stride * j + 2 → a2 ≡ a1 + 1 → a3 ≡ a1 + 2 → a4 ≡ a1 + 3
+    → c ≡ noteWord S lo n (getD img a1 0) b → d ≡ noteWord S lo n (getD img a2 0) c → e ≡ noteWord S lo n (getD img a3 0) d → f ≡ noteWord S lo n (getD img a4 0) e
+    → f ≡ noteFields S lo n img j b
+unfolding noteFields each get addr
+fields-all S lo n img j a1 a2 a3 a4 b q1 q2 q3 q4 h1 h2 h3 h4 =
+    let z1 : front + stride * j + 2 + 0 ≡ a1 = omega arith in
+    let z2 : front + stride * j + 2 + 1 ≡ a2 = omega arith in
+    let z3 : front + stride * j + 2 + 2 ≡ a3 = omega arith in
+    let z4 : front + stride * j + 2 + 3 ≡ a4 = omega arith in
+    rw (z1, z2, z3, z4, ← h1, ← h2, ← h3) h4
