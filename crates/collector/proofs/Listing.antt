@@ -38,7 +38,7 @@ module _ (S : ℕ) (x : Image) (w v : ℕ) (some : w ≢ 0) (e : v ≡ placeOf S
     others i ne = ap (λ (z : Image). marked z i) (q ∙ word-marks) ∙ ap (λ (n : ℕ). eqb n 2) (mark-past h l i ne)
 
     pub noted-far : partOf S v ≢ p → Listed S p y list m
-    noted-far far = record { long = d .long; todo = todo-far marked (λ s. p * S + s) (d .todo) y v others (λ j b r. far (rw r (part-of P S (h .some-slot) p j b))) }
+    noted-far far = record { long = d .long; todo = todo-far (d .todo) y v others (λ j b r. far (rw r (part-of P S (h .some-slot) p j b))) }
 
     module _ (own : partOf S v ≡ p) where
       slot : (s : ℕ) × (s < S) × (p * S + s ≡ v)
@@ -54,11 +54,11 @@ module _ (S : ℕ) (x : Image) (w v : ℕ) (some : w ≢ 0) (e : v ≡ placeOf S
       now = ap (λ (z : Image). marked z v) (q ∙ word-marks) ∙ eq-eqb _ _ (mark-one h l one)
 
       pub noted-room : m < mostSlots
-      noted-room = omega (arith, h .wide, todo-room marked (λ s. p * S + s) (d .todo) y v others distinct (slot .0) (slot .1) (slot .2) new now)
+      noted-room = omega (arith, h .wide, todo-room (d .todo) y v others distinct (slot .0) (slot .1) (slot .2) new now)
 
       pub noted-here : Listed S p y (set list m v) (m + 1)
       noted-here =
           record {
             long = length-set list m v ∙ d .long;
-            todo = todo-more marked (λ s. p * S + s) (d .todo) y v others distinct (slot .0) (slot .1) (slot .2) new now;
+            todo = todo-more (d .todo) y v others distinct (slot .0) (slot .1) (slot .2) new now;
           }

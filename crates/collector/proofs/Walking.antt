@@ -64,10 +64,10 @@ module _ (S p : ℕ) (wanted : ℕ → Bool) where
 
 module _ (P S p : ℕ) (inp : p < P) where
   abbrev Came : Image → Image → Type 0
-  Came = Come marked (mark S) (passes S all) (target S) (λ s. p * S + s) S 4 (Within P S) (Can P S) (spreads P S p inp all)
+  Came = Come (spreads P S p inp all)
 
   came-self : (x : Image) → Within P S x → Came x x
-  came-self x h = come-self marked (mark S) (passes S all) (target S) (λ s. p * S + s) S 4 (Within P S) (Can P S) (spreads P S p inp all) x h
+  came-self x h = come-self (spreads P S p inp all) x h
 
   -- the model's passes only mark what marks can be passed on to
   came-mark : (wanted : ℕ → Bool) (x y : Image) (j k : ℕ) → j < S → k < 4 → marked y (p * S + j) ≡ true → refers S wanted y (p * S + j) k ≡ true → Came x y
@@ -79,7 +79,7 @@ module _ (P S p : ℕ) (inp : p < P) where
 
       go : (b : Bool) → markable y v ≡ b → Came x (mark S y v)
       go true q =
-          come-add marked (mark S) (passes S all) (target S) (λ s. p * S + s) S 4 (Within P S) (Can P S) (spreads P S p inp all) x y j k l m a
+          come-add (spreads P S p inp all) x y j k l m a
           (passes-so S all y (p * S + j) k (refers-is S wanted y (p * S + j) k e .0) refl q) c
       go false q = rw (mark-none S y v q) c
 
@@ -124,7 +124,7 @@ module _ (P S p : ℕ) (inp : p < P) where
       (within-mark P S z (q .0) v lv, mark-past (q .0) lv i (λ d. eqb-false (partOf S v) p (not-true _ (b .1)) (rw d o)) ∙ q .1))
       x (h, refl) .1
 
-  traced : (x : Image) → Within P S x → Done marked (mark S) (passes S all) (target S) (λ s. p * S + s) S 4 (Within P S) (Can P S) (spreads P S p inp all) x (outside S p (inside S p x))
+  traced : (x : Image) → Within P S x → Done (spreads P S p inp all) x (outside S p (inside S p x))
   traced x h = record { come = came-outside x y c; followed = λ j k l m a e. inl (followed j k l m a e) }
     where
       y : Image
@@ -152,7 +152,7 @@ module _ (P S p : ℕ) (inp : p < P) where
               rw q at (outside-adds y (c .grown .ok) j k l m here (passes-so S (foreign S p) y (p * S + j) k (b .0) f (b .2)))
 
   -- a trace's marks leave the head as it is
-  added-head : (x : Image) {y : Image} (a : ℕ) → a < 5 → Added marked (mark S) (passes S all) (target S) (λ s. p * S + s) S 4 (Within P S) (Can P S) (spreads P S p inp all) x y
+  added-head : (x : Image) {y : Image} (a : ℕ) → a < 5 → Added (spreads P S p inp all) x y
       → get y (head a) ≡ get x (head a)
   added-head x a l as-is = refl
   added-head x a l (one-more i ok u e c) = mark-other ok (u .place) (head a) l refl refl ∙ added-head x a l c
@@ -164,7 +164,7 @@ module _ (P S p : ℕ) (inp : p < P) where
 pub record Walking (P S p : ℕ) (x y : Image) (list : List ℕ) (m at : ℕ) : Type 0 where
   pub inp : p < P
   pub listed : Listed S p y list m
-  pub walked : Walked marked (mark S) (passes S all) (target S) (λ s. p * S + s) S 4 (Within P S) (Can P S) (spreads P S p inp all) x y (Left list m at)
+  pub walked : Walked (spreads P S p inp all) x y (Left list m at)
 
 module _ {P S p : ℕ} {x : Image} (h : Within P S x) where
   pub walking-first : {list : List ℕ} {m : ℕ} → p < P → Listed S p x list m → Walking P S p x x list m 0
@@ -172,7 +172,7 @@ module _ {P S p : ℕ} {x : Image} (h : Within P S x) where
       record {
         inp = inp;
         listed = d;
-        walked = walked-first marked (mark S) (passes S all) (target S) (λ s. p * S + s) S 4 (Within P S) (Can P S) (spreads P S p inp all) x list m h (d .todo);
+        walked = walked-first (spreads P S p inp all) x list m h (d .todo);
       }
 
   module _ {y : Image} {list : List ℕ} {m at : ℕ} (g : Walking P S p x y list m at) where
@@ -191,11 +191,11 @@ module _ {P S p : ℕ} {x : Image} (h : Within P S x) where
             inp = g .inp;
             listed = d;
             walked =
-                walked-next marked (mark S) (passes S all) (target S) (λ s. p * S + s) S 4 (Within P S) (Can P S) (spreads P S p (g .inp) all) (g .walked) (g .listed .todo) (d .todo) more lt j e
+                walked-next (spreads P S p (g .inp) all) (g .walked) (g .listed .todo) (d .todo) more lt j e
                 (q ∙ visit-fields S y j);
           }
 
     pub walking-end : m ≤ at → y ≡ outside S p (inside S p x)
     walking-end le =
-        walked-same marked (mark S) (passes S all) (target S) (λ s. p * S + s) S 4 (Within P S) (Can P S) (spreads P S p (g .inp) all) (commutes P S)
-        (walked-end marked (mark S) (passes S all) (target S) (λ s. p * S + s) S 4 (Within P S) (Can P S) (spreads P S p (g .inp) all) list m at le (g .walked)) (traced P S p (g .inp) x h)
+        walked-same (spreads P S p (g .inp) all) (commutes P S)
+        (walked-end (spreads P S p (g .inp) all) list m at le (g .walked)) (traced P S p (g .inp) x h)

@@ -14,8 +14,8 @@ pub record Commutes {X : Type 0} (add : X → ℕ → X) (Ok : X → Type 0) (U 
   pub may-on : (x : X) (s t : ℕ) → Ok x → U x s → U x t → U (add x s) t
   pub may-back : (x : X) (s t : ℕ) → Ok x → U x s → U (add x s) t → U x t
 
-module _ {X : Type 0} (has : X → ℕ → Bool) (add : X → ℕ → X) (edge : X → ℕ → ℕ → Bool) (target : X → ℕ → ℕ → ℕ) (at : ℕ → ℕ) (n K : ℕ)
-    (Ok : X → Type 0) (U : X → ℕ → Type 0) (L : Spreads has add edge target at n K Ok U) where
+module _ {X : Type 0} {has : X → ℕ → Bool} {add : X → ℕ → X} {edge : X → ℕ → ℕ → Bool} {target : X → ℕ → ℕ → ℕ} {at : ℕ → ℕ} {n K : ℕ}
+    {Ok : X → Type 0} {U : X → ℕ → Type 0} (L : Spreads has add edge target at n K Ok U) where
   pub data Added (x : X) : X → Type 0 where
     as-is : Added x x
     one-more : {y : X} (t : ℕ) → Ok y → U y t → has y t ≡ false → Added x y → Added x (add y t)

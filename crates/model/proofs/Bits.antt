@@ -36,7 +36,7 @@ module _ (n : ℕ) where
   unfolding Wide addBit
   bit-wide b t w = length-set b t 1 ∙ w
 
-  pub bit-stays : (b : Bits) (t i : ℕ) → Wide b → t < n → hasBit b i ≡ true → hasBit (addBit b t) i ≡ true
+  bit-stays : (b : Bits) (t i : ℕ) → Wide b → t < n → hasBit b i ≡ true → hasBit (addBit b t) i ≡ true
   bit-stays b t i w l e = go (ℕ-discrete t i)
     where
       go : Dec (t ≡ i) → hasBit (addBit b t) i ≡ true

@@ -25,7 +25,7 @@ use Rattle.model.proofs.Bits.{Wide, bit-spreads, collect-wide, collect-
 use Rattle.model.proofs.Asking.{named-in}
 use Rattle.model.proofs.Counting.{abroad-counted}
 
-pub kept-own : {S p : ℕ} {x : Image} {t : ℕ} → KeptIn S p x t → partOf S t ≡ p
+kept-own : {S p : ℕ} {x : Image} {t : ℕ} → KeptIn S p x t → partOf S t ≡ p
 kept-own (start h) = h .0
 kept-own (step c e) = e .3
 

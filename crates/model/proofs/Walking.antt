@@ -24,15 +24,15 @@ use Rattle.model.proofs.Adding.{Commutes, Added, as-is, added-on, added
 abbrev pub Left : List ℕ → ℕ → ℕ → ℕ → ℕ → Type 0
 Left list m from i k = (q : ℕ) × (from ≤ q) × (q < m) × (getD list q 0 ≡ i)
 
-module _ {X : Type 0} (has : X → ℕ → Bool) (add : X → ℕ → X) (edge : X → ℕ → ℕ → Bool) (target : X → ℕ → ℕ → ℕ) (at : ℕ → ℕ) (n K : ℕ)
-    (Ok : X → Type 0) (U : X → ℕ → Type 0) (L : Spreads has add edge target at n K Ok U) where
+module _ {X : Type 0} {has : X → ℕ → Bool} {add : X → ℕ → X} {edge : X → ℕ → ℕ → Bool} {target : X → ℕ → ℕ → ℕ} {at : ℕ → ℕ} {n K : ℕ}
+    {Ok : X → Type 0} {U : X → ℕ → Type 0} (L : Spreads has add edge target at n K Ok U) where
   abbrev pub Found : X → ℕ → Type 0
   Found x = Reach (λ v. has x v ≡ true) (Edge has add edge target at n K x)
 
   -- y comes from x by additions of what edges lead to
   pub record Come (x y : X) : Type 0 where
     pub grown : Grown has add edge target at n K Ok U L x y
-    pub added : Added has add edge target at n K Ok U L x y
+    pub added : Added L x y
     pub found : (i : ℕ) → has y i ≡ true → Found x i
 
   -- and each edge of a place of y leads into y, or is left to follow
@@ -51,7 +51,7 @@ module _ {X : Type 0} (has : X → ℕ → Bool) (add : X → ℕ → X) (edge :
   come-add x y j k l m a e c =
       record {
         grown = grown-add has add edge target at n K Ok U L x y t u (c .grown);
-        added = added-on has add edge target at n K Ok U L x y t (c .grown .ok) u (c .added);
+        added = added-on L x y t (c .grown .ok) u (c .added);
         found = λ i h. reached-add has add edge target at n K Ok U L x y t i (c .grown .ok) u h along (c .found i);
       }
     where
@@ -170,7 +170,7 @@ module _ {X : Type 0} (has : X → ℕ → Bool) (add : X → ℕ → X) (edge :
   -- and, where additions can change places, to the same thing in whatever order
   pub walked-same : Commutes add Ok U → {x y z : X} → Done x y → Done x z → y ≡ z
   walked-same C {x} {y} {z} w v =
-      added-same has add edge target at n K Ok U L C x y z (w .come .added) (v .come .added)
+      added-same L C x y z (w .come .added) (v .come .added)
       (λ i. same-test _ _ (λ h. walked-all v i (w .come .found i h)) (λ h. walked-all w i (v .come .found i h)))
 
   -- n passes are done too, if the places are different, and edges of places end at places
@@ -209,83 +209,82 @@ longer-none list m = record { more = omega arith; kept = λ i l. refl }
 pub longer-then : {a b c : List ℕ} {i j k : ℕ} → Longer a i b j → Longer b j c k → Longer a i c k
 longer-then g h = record { more = omega (arith, g .more, h .more); kept = λ i l. h .kept i (omega (arith, g .more)) ∙ g .kept i l }
 
-module _ {X : Type 0} (has : X → ℕ → Bool) (at : ℕ → ℕ) where
-  -- at first it is empty
-  pub todo-none : (n : ℕ) (x : X) (list : List ℕ) → n ≤ length list → ((j : ℕ) → j < n → has x (at j) ≡ false) → Todo has at n x list 0
-  todo-none n x list r h =
+-- at first it is empty
+pub todo-none : {X : Type 0} (has : X → ℕ → Bool) (at : ℕ → ℕ) (n : ℕ) (x : X) (list : List ℕ) → n ≤ length list → ((j : ℕ) → j < n → has x (at j) ≡ false) → Todo has at n x list 0
+todo-none has at n x list r h =
+    record {
+      room = r;
+      counted = sym (tally-none-pass n (λ j. has x (at j)) h);
+      listed = λ j l e. absurd (clash e (h j l));
+      held = λ i l. absurd (omega arith);
+    }
+
+module _ {X : Type 0} {has : X → ℕ → Bool} {at : ℕ → ℕ} {n : ℕ} {x : X} {list : List ℕ} {m : ℕ} (t : Todo has at n x list m) where
+  pub todo-most : m ≤ n
+  todo-most = omega (arith, t .counted, tally-le n (λ j. has x (at j)))
+
+  -- one place more to list: it is in the set, or not
+  pub todo-in : has x (at n) ≡ true → n < length list → Todo has at (n + 1) x (set list m (at n)) (m + 1)
+  todo-in e r =
       record {
-        room = r;
-        counted = sym (tally-none-pass n (λ j. has x (at j)) h);
-        listed = λ j l e. absurd (clash e (h j l));
-        held = λ i l. absurd (omega arith);
+        room = omega (arith, length-set list m (at n));
+        counted = ap (λ (b : Bool). m + bit b) (sym e) ∙ tally-more (λ j. has x (at j)) n m (t .counted);
+        listed = λ j l h. ⊎-elim (λ q. (m, omega arith, at-end list m (at n) room ∙ ap at (sym q))) (λ ne. stands list m (at n) room (t .listed j (omega arith) h)) (eq-or-ne j n);
+        held = ends list m (at n) room (λ v. (j : ℕ) × (j < n + 1) × (at j ≡ v) × (has x (at j) ≡ true)) (n, omega arith, refl, e)
+            (λ i l. let w = t .held i l in (w .0, omega (arith, w .1), w .2, w .3));
       }
+    where
+      room : m < length list
+      room = omega (arith, todo-most)
 
-  module _ {n : ℕ} {x : X} {list : List ℕ} {m : ℕ} (t : Todo has at n x list m) where
-    pub todo-most : m ≤ n
-    todo-most = omega (arith, t .counted, tally-le n (λ j. has x (at j)))
+  pub todo-out : has x (at n) ≡ false → n < length list → Todo has at (n + 1) x list m
+  todo-out e r =
+      record {
+        room = omega arith;
+        counted = omega (arith, ap bit e, tally-more (λ j. has x (at j)) n m (t .counted));
+        listed = λ j l h. t .listed j (below j l h) h;
+        held = λ i l. let w = t .held i l in (w .0, omega (arith, w .1), w .2, w .3);
+      }
+    where
+      below : (j : ℕ) → j < n + 1 → has x (at j) ≡ true → j < n
+      below j l h = ⊎-elim (λ q. absurd (clash h (ap (λ (i : ℕ). has x (at i)) q ∙ e))) (λ ne. omega arith) (eq-or-ne j n)
 
-    -- one place more to list: it is in the set, or not
-    pub todo-in : has x (at n) ≡ true → n < length list → Todo has at (n + 1) x (set list m (at n)) (m + 1)
-    todo-in e r =
+  -- the set changes at v alone,
+  module _ (y : X) (v : ℕ) (others : (i : ℕ) → v ≢ i → has y i ≡ has x i) where
+    -- which is none of the places,
+    pub todo-far : ((j : ℕ) → j < n → v ≢ at j) → Todo has at n y list m
+    todo-far far =
         record {
-          room = omega (arith, length-set list m (at n));
-          counted = ap (λ (b : Bool). m + bit b) (sym e) ∙ tally-more (λ j. has x (at j)) n m (t .counted);
-          listed = λ j l h. ⊎-elim (λ q. (m, omega arith, at-end list m (at n) room ∙ ap at (sym q))) (λ ne. stands list m (at n) room (t .listed j (omega arith) h)) (eq-or-ne j n);
-          held = ends list m (at n) room (λ v. (j : ℕ) × (j < n + 1) × (at j ≡ v) × (has x (at j) ≡ true)) (n, omega arith, refl, e)
-              (λ i l. let w = t .held i l in (w .0, omega (arith, w .1), w .2, w .3));
+          room = t .room;
+          counted = t .counted ∙ tally-same n (λ j. has x (at j)) (λ j. has y (at j)) (λ j l. sym (others (at j) (far j l)));
+          listed = λ j l h. t .listed j l (sym (others (at j) (far j l)) ∙ h);
+          held = λ i l. let w = t .held i l in (w .0, w .1, w .2, others (at (w .0)) (far (w .0) (w .1)) ∙ w .3);
         }
-      where
-        room : m < length list
-        room = omega (arith, todo-most)
 
-    pub todo-out : has x (at n) ≡ false → n < length list → Todo has at (n + 1) x list m
-    todo-out e r =
-        record {
-          room = omega arith;
-          counted = omega (arith, ap bit e, tally-more (λ j. has x (at j)) n m (t .counted));
-          listed = λ j l h. t .listed j (below j l h) h;
-          held = λ i l. let w = t .held i l in (w .0, omega (arith, w .1), w .2, w .3);
-        }
-      where
-        below : (j : ℕ) → j < n + 1 → has x (at j) ≡ true → j < n
-        below j l h = ⊎-elim (λ q. absurd (clash h (ap (λ (i : ℕ). has x (at i)) q ∙ e))) (λ ne. omega arith) (eq-or-ne j n)
+    -- or is one of them, which comes into the set and to the list's end
+    module _ (distinct : (i j : ℕ) → i < n → j < n → at i ≡ at j → i ≡ j) (j : ℕ) (l : j < n) (e : at j ≡ v) (new : has x v ≡ false) (now : has y v ≡ true) where
+      counted-more : m + 1 ≡ tally n (λ i. has y (at i))
+      counted-more =
+          let b : bit (has x (at j)) ≡ 0 = rw (e, new) in
+          let b' : bit (has y (at j)) ≡ 1 = rw (e, now) in
+          let r = tally-move n (λ i. has x (at i)) (λ i. has y (at i)) j l (λ i li ne. sym (others (at i) (λ q. ne (distinct i j li l (sym q ∙ sym e))))) in
+          omega (arith, t .counted)
 
-    -- the set changes at v alone,
-    module _ (y : X) (v : ℕ) (others : (i : ℕ) → v ≢ i → has y i ≡ has x i) where
-      -- which is none of the places,
-      pub todo-far : ((j : ℕ) → j < n → v ≢ at j) → Todo has at n y list m
-      todo-far far =
+      pub todo-room : m < n
+      todo-room = omega (arith, counted-more, tally-le n (λ i. has y (at i)))
+
+      pub todo-more : Todo has at n y (set list m v) (m + 1)
+      todo-more =
           record {
-            room = t .room;
-            counted = t .counted ∙ tally-same n (λ j. has x (at j)) (λ j. has y (at j)) (λ j l. sym (others (at j) (far j l)));
-            listed = λ j l h. t .listed j l (sym (others (at j) (far j l)) ∙ h);
-            held = λ i l. let w = t .held i l in (w .0, w .1, w .2, others (at (w .0)) (far (w .0) (w .1)) ∙ w .3);
+            room = omega (arith, length-set list m v, t .room);
+            counted = counted-more;
+            listed = λ i li h. ⊎-elim (λ q. (m, omega arith, at-end list m v room ∙ q)) (λ ne. stands list m v room (t .listed i li (sym (others (at i) ne) ∙ h))) (eq-or-ne v (at i));
+            held = ends list m v room (λ u. (i : ℕ) × (i < n) × (at i ≡ u) × (has y (at i) ≡ true)) (j, l, e, rw (e, now))
+                (λ i li. let w = t .held i li in (w .0, w .1, w .2, stays (at (w .0)) (w .3)));
           }
+        where
+          room : m < length list
+          room = omega (arith, todo-room, t .room)
 
-      -- or is one of them, which comes into the set and to the list's end
-      module _ (distinct : (i j : ℕ) → i < n → j < n → at i ≡ at j → i ≡ j) (j : ℕ) (l : j < n) (e : at j ≡ v) (new : has x v ≡ false) (now : has y v ≡ true) where
-        counted-more : m + 1 ≡ tally n (λ i. has y (at i))
-        counted-more =
-            let b : bit (has x (at j)) ≡ 0 = rw (e, new) in
-            let b' : bit (has y (at j)) ≡ 1 = rw (e, now) in
-            let r = tally-move n (λ i. has x (at i)) (λ i. has y (at i)) j l (λ i li ne. sym (others (at i) (λ q. ne (distinct i j li l (sym q ∙ sym e))))) in
-            omega (arith, t .counted)
-
-        pub todo-room : m < n
-        todo-room = omega (arith, counted-more, tally-le n (λ i. has y (at i)))
-
-        pub todo-more : Todo has at n y (set list m v) (m + 1)
-        todo-more =
-            record {
-              room = omega (arith, length-set list m v, t .room);
-              counted = counted-more;
-              listed = λ i li h. ⊎-elim (λ q. (m, omega arith, at-end list m v room ∙ q)) (λ ne. stands list m v room (t .listed i li (sym (others (at i) ne) ∙ h))) (eq-or-ne v (at i));
-              held = ends list m v room (λ u. (i : ℕ) × (i < n) × (at i ≡ u) × (has y (at i) ≡ true)) (j, l, e, rw (e, now))
-                  (λ i li. let w = t .held i li in (w .0, w .1, w .2, stays (at (w .0)) (w .3)));
-            }
-          where
-            room : m < length list
-            room = omega (arith, todo-room, t .room)
-
-            stays : (i : ℕ) → has x i ≡ true → has y i ≡ true
-            stays i h = ⊎-elim (λ q. absurd (clash h (rw (← q) new))) (λ ne. others i ne ∙ h) (eq-or-ne v i)
+          stays : (i : ℕ) → has x i ≡ true → has y i ≡ true
+          stays i h = ⊎-elim (λ q. absurd (clash h (rw (← q) new))) (λ ne. others i ne ∙ h) (eq-or-ne v i)

@@ -12,6 +12,7 @@ module _ {X : Type 0} (add : X → ℕ → X) (edge : X → ℕ → ℕ → Bool
   visit x i = each K (λ y k. cond (edge y i k) (add y (target y i k)) y) x
 
 -- the list of a walk over the places at 0, .., at (n - 1): its first m are those of them that are in the set, each once
+-- (m is their number, and each is listed)
 pub record Todo {X : Type 0} (has : X → ℕ → Bool) (at : ℕ → ℕ) (n : ℕ) (x : X) (list : List ℕ) (m : ℕ) : Type 0 where
   pub room : n ≤ length list
   pub counted : m ≡ tally n (λ j. has x (at j))

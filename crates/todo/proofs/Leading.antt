@@ -49,13 +49,13 @@ module _ (S lo n : ℕ) (img : Image) where
   pub record Spreading (b marks : Bits) (list : List ℕ) (m from : ℕ) : Type 0 where
     pub noted : Noted lo n marks list m
     pub fit : lo + n ≤ mostPlaces
-    pub walked : Walked hasBit addBit edge to at n 4 Ok U (leads fit) b marks (Left list m from)
+    pub walked : Walked (leads fit) b marks (Left list m from)
 
 module _ {S lo n : ℕ} {img : Image} {b : Bits} where
   pub spreading-first : {list : List ℕ} {m : ℕ} → Noted lo n b list m → Spreading S lo n img b b list m 0
   unfolding Wide
   spreading-first {list} {m} t =
-      record { noted = t; fit = t .fit; walked = walked-first hasBit addBit _ _ _ n 4 _ _ (leads S lo n img (t .fit)) b list m (t .wide) (t .todo) }
+      record { noted = t; fit = t .fit; walked = walked-first (leads S lo n img (t .fit)) b list m (t .wide) (t .todo) }
 
   module _ {marks : Bits} {list : List ℕ} {m from : ℕ} (s : Spreading S lo n img b marks list m from) (h : from < m) (j : ℕ) (e : j ≡ getD list from 0) where
     -- the next place of the list
@@ -70,12 +70,12 @@ module _ {S lo n : ℕ} {img : Image} {b : Bits} where
         (record {
           noted = g .1 .noted;
           fit = s .fit;
-          walked = walked-next hasBit addBit _ _ _ n 4 _ _ (leads S lo n img (s .fit)) (s .walked) (s .noted .todo) (g .1 .noted .todo) (g .1 .longer) h j e (g .0);
+          walked = walked-next (leads S lo n img (s .fit)) (s .walked) (s .noted .todo) (g .1 .noted .todo) (g .1 .longer) h j e (g .0);
         })
 
   pub spreading-done : {marks : Bits} {list : List ℕ} {m from : ℕ} → length b ≡ mostPlaces → m ≤ from → Spreading S lo n img b marks list m from → marks ≡ spreadAmong S lo n img b
   unfolding Wide spreadAmong
   spreading-done {marks} {list} {m} {from} w le s =
       let L = leads S lo n img (s .fit) in
-      walked-is hasBit addBit _ _ _ n 4 _ _ L (λ i k l h q. omega arith) (λ c j k ok l h e. let r = leads-in S lo n img (lo + j) k e in (target S img (lo + j) k - lo, omega (arith, r), omega (arith, r)))
-      (bit-commutes mostPlaces) b marks w (walked-end hasBit addBit _ _ _ n 4 _ _ L list m from le (s .walked))
+      walked-is L (λ i k l h q. omega arith) (λ c j k ok l h e. let r = leads-in S lo n img (lo + j) k e in (target S img (lo + j) k - lo, omega (arith, r), omega (arith, r)))
+      (bit-commutes mostPlaces) b marks w (walked-end L list m from le (s .walked))

@@ -33,7 +33,7 @@ noted-none {lo} {n} marks list e q fit =
 
 module _ {lo n : ℕ} {marks : Bits} {list : List ℕ} {m : ℕ} (t : Noted lo n marks list m) where
   pub noted-most : m ≤ mostPlaces
-  noted-most = omega (arith, t .fit, todo-most hasBit (λ i. lo + i) (t .todo))
+  noted-most = omega (arith, t .fit, todo-most (t .todo))
 
   pub more-none : More lo n list m marks list m
   more-none = record { noted = t; longer = longer-none list m }
@@ -55,10 +55,10 @@ module _ {lo n : ℕ} {marks : Bits} {list : List ℕ} {m : ℕ} (t : Noted lo n
       marked = bit-same mostPlaces marks j (t .wide) (omega (arith, t .fit))
 
       listed : Todo hasBit (λ i. lo + i) n (addBit marks j) (set list m j) (m + 1)
-      listed = todo-more hasBit (λ i. lo + i) (t .todo) (addBit marks j) j (λ i ne. bit-other mostPlaces marks j i ne) (λ i k l h q. omega arith) (j - lo) (omega arith) (omega arith) unmarked marked
+      listed = todo-more (t .todo) (addBit marks j) j (λ i ne. bit-other mostPlaces marks j i ne) (λ i k l h q. omega arith) (j - lo) (omega arith) (omega arith) unmarked marked
 
       pub enter-room : m < mostPlaces
-      enter-room = omega (arith, t .fit, todo-most hasBit (λ i. lo + i) listed)
+      enter-room = omega (arith, t .fit, todo-most listed)
 
       pub enter-new : (set marks j 1 ≡ addBit marks j) × More lo n list m (set marks j 1) (set list m j) (m + 1)
       unfolding addBit

@@ -34,7 +34,7 @@ place-small c = let h = c .before .before .pre .0 in omega (arith, place-in c, p
 
 -- no more are listed than looked at
 few : (c : tie.In-loop Inv-loop μ-loop) → c .before .loop .m < 64
-few c = omega (arith, todo-most marked _ (c .before .loop .inv .2), c .loop-test .taken, c .before .before .pre .0 .wide)
+few c = omega (arith, todo-most (c .before .loop .inv .2), c .loop-test .taken, c .before .before .pre .0 .wide)
 
 mul-j : tie.Need-mul-j Inv-loop μ-loop
 mul-j c = omega (arith, place-small c)
@@ -77,8 +77,8 @@ unfolding get addr
 loop-again c =
     let l = c .before .before .before .loop in
     ⊎-elim
-    (λ h. rw (h .1, h .2) (search needs, length-set (l .list) (l .m) _ ∙ l .inv .1, todo-in marked _ (l .inv .2) (omega (arith, eq-eqb)) (omega arith)))
-    (λ h. rw (h .1, h .2) (search needs, l .inv .1, todo-out marked _ (l .inv .2) (omega (arith, ne-eqb)) (omega arith)))
+    (λ h. rw (h .1, h .2) (search needs, length-set (l .list) (l .m) _ ∙ l .inv .1, todo-in (l .inv .2) (omega (arith, eq-eqb)) (omega arith)))
+    (λ h. rw (h .1, h .2) (search needs, l .inv .1, todo-out (l .inv .2) (omega (arith, ne-eqb)) (omega arith)))
     (c .if1 .came)
 
 returns : tie.Need-returns Inv-loop μ-loop

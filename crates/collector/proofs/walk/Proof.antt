@@ -2,7 +2,6 @@
 use Prim.Native.Nat.{_-_, _<_}
 use mathlib.Core.Path.{sym, _∙_}
 use native.Mathlib.Omega.{arith}
-use Rattle.model.specs.Acts.{marked}
 use Rattle.model.proofs.Walking.{todo-most}
 use Rattle.collector.proofs.Walking.{Walking, walking-first, walking-within, next-in, walking-next, walking-end}
 use borrow.Author.Needs.{needs}
@@ -23,7 +22,7 @@ loop-holds c = walking-first (c .before .before .before .before .pre .0) (c .bef
 
 -- the list has no more than a partition's slots
 next-few : (c : tie.In-loop Inv-loop μ-loop) → c .before .loop .at < 64
-next-few c = omega (arith, c .loop-test .taken, todo-most marked _ (c .before .loop .inv .listed .todo), c .before .before .before .before .before .before .pre .0 .wide)
+next-few c = omega (arith, c .loop-test .taken, todo-most (c .before .loop .inv .listed .todo), c .before .before .before .before .before .before .pre .0 .wide)
 
 mul-wide : tie.Need-mul-wide Inv-loop μ-loop
 mul-wide c = omega (arith, next-few c)
