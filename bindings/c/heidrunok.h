@@ -90,7 +90,7 @@ static inline const char *heidrunok_refusal(uint32_t number) {
         "the image is not sound",
         "partitions or slots out of range, or the image's length is not 37 + 7 P S",
         "the first line is not a heading of edition 1 or 2, or there is none",
-        "a line without a shape, or over 20 bytes",
+        "a line without a shape, or a tail that begins none",
         "a heading again, a collector line within a transaction, or an end without operations",
         "no operation or more than 32, or the end's number is wrong",
         "a partition, slot, field or root number is too large",

@@ -1,6 +1,6 @@
 #!/usr/bin/env python3
 """Makes the scripts that are not written by hand (paper, stars, local, limits, logs, random-..), and from model.py the .answers of every
-script here but those of w1-..: they were made elsewhere, and model.py gives the same.
+script here but those of w1-.. and w2-..: they were made elsewhere, and model.py gives the same.
 
 scripts.py            makes them all anew
 scripts.py SEED       writes one random script, for trying more than are stored
@@ -29,15 +29,34 @@ LOGS = [
     ("", "heap\t1\t17\t4\nbad\n"),
     ("", "heap\t1\t2\t65\nbad\n"),
     ("", "heap\t1\t2\t5\n"),
-    ("an empty heap, and a tail of 20 bytes; 21 are 4, at the line after", "heap\t1\t2\t4\n" + "x" * 20),
-    ("", "heap\t1\t2\t4\n" + "x" * 21),
-    ("a tail of 21 bytes behind a dropped transaction", "heap\t1\t2\t4\nnew\t0\t0\t1\n" + "x" * 21),
+    ("an empty heap, and a tail of 20 bytes; 21 are 4, at the line after", "heap\t1\t2\t4\nnew\t15\t63\t4294967295"),
+    ("", "heap\t1\t2\t4\nnew\t15\t127\t4294967295"),
+    ("a tail of 21 bytes behind a dropped transaction", "heap\t1\t2\t4\nnew\t0\t0\t1\nnew\t15\t127\t4294967295"),
+    ("a tail that begins no line is 4, whatever its length: text, a byte too many, no number, a heading", "heap\t1\t2\t4\n" + "x" * 20),
+    ("", "heap\t2\t2\t4\nx"),
+    ("", "heap\t2\t2\t4\nopen\t"),
+    ("", "heap\t2\t2\t4\nclosed"),
+    ("", "heap\t2\t2\t4\nset\t0\t0\t01"),
+    ("", "heap\t2\t2\t4\nend\t4294967296"),
+    ("", "heap\t2\t2\t4\nlocal\t0\r"),
+    ("", "heap\t1\t2\t4\nh"),
+    ("", "heap\t2\t2\t4\nheap\t2\t2\t4"),
+    ("and one that no line of 20 bytes begins; a digit less, and one does", "heap\t2\t2\t4\nnew\t4294967295\t4294"),
+    ("", "heap\t2\t2\t4\nnew\t4294967295\t429"),
+    ("", "heap\t2\t2\t4\nset\t429496729\t"),
+    ("", "heap\t2\t2\t4\nset\t42949672\t"),
+    ("by its shape alone: a whole line without its end, a slot that does not exist, an end of nothing, a phase in a transaction", "heap\t1\t2\t4\nclose"),
+    ("", "heap\t1\t2\t4\nval\t99\t99\t1"),
+    ("", "heap\t1\t2\t4\nend\t9"),
+    ("", "heap\t2\t2\t4\nnew\t0\t0\t1\nope"),
+    ("", "heap\t2\t2\t4\n" + "unroot\t0\n" * 32 + "unroot\t0"),
+    ("with no complete line it stays 3", "new\t0"),
     ("4: an empty line, another keyword, a number too large, a field too many", "heap\t1\t2\t4\n\n"),
     ("", "heap\t1\t2\t4\nnew\t0\t0\t1\nold\t0\t0\n"),
     ("", "heap\t1\t2\t4\nval\t0\t0\t4294967296\n"),
     ("", "heap\t1\t2\t4\nopen\t\n"),
-    ("a body of 20 bytes passes, and of 21 is 4", "heap\t1\t2\t4\nnew\t1\t0\t4294967295\nend\t1\n"),
-    ("", "heap\t1\t2\t4\nset\t1000\t1000\t3\t1000\t1\nend\t1\n"),
+    ("a body of 20 bytes has a shape (7 here), and of 21 none", "heap\t1\t2\t4\nnew\t15\t63\t4294967295\nend\t1\n"),
+    ("", "heap\t1\t2\t4\nset\t100\t1000\t3\t1000\t1\nend\t1\n"),
     ("5: a heading again, a collector line within a transaction, an end with no operation", "heap\t1\t2\t4\nheap\t1\t2\t4\n"),
     ("", "heap\t1\t2\t4\nheap\t1\t99\t0\n"),
     ("a heading of any edition that there is: 5; of no other: 4", "heap\t1\t2\t4\nheap\t2\t2\t4\n"),
@@ -320,5 +339,5 @@ if __name__ == "__main__":
             (here / (make.__name__ + ".script")).write_text("\n".join(make()) + "\n")
         for seed in range(1, 25):
             (here / ("random-%02d.script" % seed)).write_text(Writer(seed).script())
-        for script in set(here.glob("*.script")) - set(here.glob("w1-*")):
+        for script in set(here.glob("*.script")) - set(here.glob("w[0-9]-*")):
             script.with_suffix(".answers").write_bytes(model.play(script.read_bytes()))

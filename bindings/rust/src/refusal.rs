@@ -37,7 +37,7 @@ refusals! {
     Unsound = 1, "the image is not sound";
     Size = 2, "partitions or slots out of range, or the image's length is not 37 + 7 P S";
     Heading = 3, "the first line is not a heading of edition 1 or 2, or there is none";
-    Shape = 4, "a line without a shape, or over 20 bytes";
+    Shape = 4, "a line without a shape, or a tail that begins none";
     Order = 5, "a heading again, a collector line within a transaction, or an end without operations";
     Count = 6, "no operation or more than 32, or the end's number is wrong";
     Range = 7, "a partition, slot, field or root number is too large";

@@ -23,7 +23,7 @@ use Rattle.model.specs.Judge.{check}
 use Rattle.model.specs.Sound.{isSound}
 use Rattle.lines.specs.Print.{Bytes}
 use Rattle.journal.specs.Recover.{Recovered, recoverOf}
-use Rattle.journal.specs.Refusals.{Refuses, no-line, no-heading, wrong-size, no-shape, misplaced, miscounted, refused-act, long-tail}
+use Rattle.journal.specs.Refusals.{Refuses, no-line, no-heading, wrong-size, no-shape, misplaced, miscounted, refused-act, no-beginning}
 use Rattle.journal.proofs.Any.{refused-so}
 use Rattle.catalogue.specs.declared.Answer.{Answer}
 use Rattle.catalogue.specs.declared.Answer.the-variants.{Done, Refused as NotDone}
@@ -188,7 +188,7 @@ log-number (no-shape b body rest u n) = omega arith
 log-number (misplaced b i rest s m) = omega arith
 log-number (miscounted b i rest s p m) = omega arith
 log-number (refused-act a b rest s p k e j) = among-number _ k e (among-wider 1 16 _ (omega arith) (omega arith) (act-among _ _ _ a)) j
-log-number (long-tail b tail u long) = omega arith
+log-number (no-beginning b tail u none-such) = omega arith
 
 pub recover-back : (log : List ℕ) (len : ℕ) → Bytes log → recoveredBack (saidRecovered (recoverOf log len)) ≡ recoverOf log len
 recover-back log len b =

@@ -14,11 +14,12 @@ use Rattle.model.specs.Acts.{Act}
 use Rattle.lines.specs.Print.{Bytes}
 use Rattle.writer.specs.Record.{Rule, newest, recordOf, headingOf}
 use Rattle.writer.specs.Write.{splice}
-use Rattle.journal.specs.Log.{logOf, replay, whole, Kept}
+use Rattle.journal.specs.Log.{logOf, replay, whole, Kept, LooksTorn}
 use Rattle.journal.specs.Recover.{Recovered, recovery, recoverOf}
 use Rattle.journal.proofs.Any.{any-bytes}
 use Rattle.journal.proofs.Carrying.{whole-part, kept-bytes}
 use Rattle.journal.proofs.Demand.{kept-is, cut-says, demand-2}
+use Rattle.journal.proofs.Torn.{honest-torn}
 use Rattle.promises.specs.Calls.{Call, actOf, formatting, calling}
 use Rattle.promises.specs.World.{World, logged, lent, recovered, formatted as world-formatted, called as world-called, refused as world-refused, unformatted as world-unformatted}
 use Rattle.promises.specs.Book.{bytesAt, Book, formatted, adopted, called, refused, unformatted, moved, LogAt, Keeps}
@@ -104,6 +105,10 @@ module _ {h : Rule} {acts : List Act} {img : Image} {from n : ℕ} {log : List �
   -- DEMAND 2
   pub demand-2-calls : recoverOf (bytesAt from k log) (size (h .P) (h .S)) ≡ recovery (length (logOf h (whole h acts k))) (replay h (whole h acts k))
   demand-2-calls = rw cut (demand-2 h acts (keeps .replayed .history) k lo)
+
+  -- what a cut leaves looks torn
+  pub book-torn : LooksTorn (bytesAt from k log)
+  book-torn = rw cut (honest-torn h acts (keeps .replayed .history) k lo)
 
   -- and the book goes on from there, in its own log buffer
   pub book-cut : Book h (whole h acts k) (replay h (whole h acts k)) from (length (logOf h (whole h acts k))) log

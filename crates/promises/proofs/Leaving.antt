@@ -19,7 +19,8 @@ use Rattle.model.specs.Image.{Image}
 use Rattle.model.specs.Judge.{check}
 use Rattle.model.specs.Sound.{isSound}
 use Rattle.model.proofs.SoundnessActs.{zeros-unsound}
-use Rattle.journal.specs.Recover.{Stand, early, going, stopped, reader, feedAll, refusal, recovery, tailOk, close, answer, recoverOf}
+use Rattle.lines.specs.Line.{tailOk}
+use Rattle.journal.specs.Recover.{Stand, early, going, stopped, reader, feedAll, refusal, recovery, close, answer, recoverOf}
 use Rattle.catalogue.specs.Answers.{Said, refusedWith, said, totals, saidClosing, yield, saidFreeing, saidListing, saidReading, saidAsked}
 use Rattle.catalogue.specs.Call.{perform, judgeAct, judgeCommit, judgeForeign, judgeObject, callOf, commitOf, openOf, traceOf, closeOf, localOf, listingOf, readingOf, askedOf}
 use Rattle.promises.specs.Rows.{Row, given, Found, telled, First, Unsound, NoRoot}

@@ -16,9 +16,10 @@ use Rattle.kinds.specs.Operations.{new, set-to, root-to, unroot, three}
 use Rattle.kinds.specs.declared.Target.the-variants.{Object}
 use Rattle.kinds.specs.declared.Verdict.{Verdict}
 use Rattle.kinds.specs.declared.Verdict.the-variants.{Accepted, Refused}
+use Rattle.lines.specs.declared.line.Line.the-variants.{Operation, Close}
 use Rattle.lines.specs.Words.{headingRows, otherRows, allRows, beginnings, prefixesOf, code, isIn, known, following}
 use Rattle.lines.specs.Machine.{within, scan}
-use Rattle.lines.specs.Line.{lineOf}
+use Rattle.lines.specs.Line.{lineOf, tailOk}
 use Rattle.lines.specs.Decimal.{digits, decimal}
 use Rattle.lines.specs.Print.{field, letters, text, printShape, print}
 use Rattle.model.specs.Image.{Image, state, addr, get, put, lengthOf, size, blank, place, placeOf, partOf, abroad, lose, gain, recount, refer, release}
@@ -30,7 +31,7 @@ use Rattle.model.specs.Outlist.{goesOut, goesTo, outBits, nameAt, listNames, ou
 use Rattle.model.specs.Sound.{inRange, refOk, freeOk, slotOk, points, inCount, countOk, rootOk, flagOk, flagDown, unmarkedAt, openOk, shutOk, soundAt, isSound}
 use Rattle.writer.specs.Record.{rule, opLines, recordOf, headingOf}
 use Rattle.writer.specs.Write.{splice}
-use Rattle.journal.specs.Recover.{act, headed, feed, feedAll, tailOk, Recovered, refusal, recovery, answer, recoverOf}
+use Rattle.journal.specs.Recover.{act, headed, feed, feedAll, Recovered, refusal, recovery, answer, recoverOf}
 use Rattle.catalogue.specs.Call as call
 use Rattle.catalogue.specs.Call.{judgeAct, judgeCommit, judgeForeign, formatOf, callOf, commitOf, closeOf, localOf, listingOf}
 use Rattle.promises.specs.Calls.{Call, open-call, close-call}
@@ -107,6 +108,10 @@ garbage =
 abbrev headings : ℕ → List ℕ
 headings e = headingOf (rule 2 2 4) ++ headingOf (rule e 2 4)
 
+-- a line of 21 bytes: `new` 4294967295 4294 0
+abbrev overlong : List ℕ
+overlong = print (Operation (new 4294967295 4294 0))
+
 -- THE STARRED NUMBERS. The first reply of a session is its formatting's.
 pub table :
     Agree
@@ -150,6 +155,13 @@ pub table :
     case (recoverOf (headingOf (rule 2 2 4) ++ (opLines (new 0 0 1 ∷ []) ++ recordOf (local 0))) 93) (refusal 93 5 3) ∷
     case (recoverOf (paperLog 1 ++ recordOf (local 0)) 93) (recovery 140 threeObjects) ∷
     case (recoverOf (paperLog 2 ++ recordOf (local 0)) 93) (recovery 140 threeObjects) ∷
+    -- a tail under a heading of either edition: a whole line without its end, and what a line of 20 bytes begins with, are dropped; a digit more, other text, and
+    -- the beginning of a heading are 4
+    case (recoverOf (headingOf (rule 1 2 4) ++ print Close) 93) (recovery 11 (blank 2 4)) ∷
+    case (recoverOf (headingOf (rule 2 2 4) ++ take 18 overlong) 93) (recovery 11 (blank 2 4)) ∷
+    case (recoverOf (headingOf (rule 2 2 4) ++ take 19 overlong) 93) (refusal 93 4 2) ∷
+    case (recoverOf (paperLog 1 ++ replicate 20 120) 93) (refusal 93 4 15) ∷
+    case (recoverOf (paperLog 2 ++ take 2 (paperLog 2)) 93) (refusal 93 4 15) ∷
     -- the paper's log, of edition 1 and of 2, cut at 10 bytes: 3 and line 1, zeros
     case (recoverOf (take 10 (paperLog 1)) 93) (refusal 93 3 1) ∷ case (recoverOf (take 10 (paperLog 2)) 93) (refusal 93 3 1) ∷
     -- at 11 to 88: empty heap, kept 11
@@ -162,4 +174,4 @@ pub table :
     case (recoverOf (paperLog 1) 93) (recovery 132 threeObjects) ∷ case (recoverOf (paperLog 2) 93) (recovery 132 threeObjects) ∷
     [])
 unfolding headingRows otherRows allRows beginnings prefixesOf code isIn known following within scan lineOf addr get put lengthOf size blank placeOf partOf wordOf abroad lose gain recount refer release each again tally every first follow pass spread mark markWord store born perform performAll unmarked notClean unclean markRoots allow openUp inside outside finish traceOne clear settle shut closeUp localStart localBits freeBut localUp localFreed hasBit addBit collect apply check andThen inLimits judgeFormat judgeOp judgeOps rooted led lowest judge judgeOutlist act headed feed feedAll tailOk answer recoverOf field letters text printShape print digits decimal recordOf headingOf splice inRange refOk freeOk slotOk points inCount countOk rootOk flagOk flagDown unmarkedAt openOk shutOk soundAt isSound goesOut goesTo outBits nameAt listNames outlist call.perform judgeAct judgeCommit judgeForeign formatOf callOf commitOf closeOf localOf listingOf
-table = (refl, (refl, (refl, (refl, (refl, (refl, (refl, (refl, (refl, (refl, (refl, (refl, (refl, (refl, (refl, (refl, (refl, (refl, (refl, (refl, (refl, (refl, (refl, (refl, (refl, (refl, (cut-at 0 (omega arith), (cut-at 1 (omega arith), (refl, (refl, (refl, (refl, tt))))))))))))))))))))))))))))))))
+table = (refl, (refl, (refl, (refl, (refl, (refl, (refl, (refl, (refl, (refl, (refl, (refl, (refl, (refl, (refl, (refl, (refl, (refl, (refl, (refl, (refl, (refl, (refl, (refl, (refl, (refl, (refl, (refl, (refl, (refl, (refl, (cut-at 0 (omega arith), (cut-at 1 (omega arith), (refl, (refl, (refl, (refl, tt)))))))))))))))))))))))))))))))))))))

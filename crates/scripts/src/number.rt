@@ -2,6 +2,7 @@
 use lines::line::Line;
 use lines::line::finish;
 use lines::machine::Read;
+use lines::machine::Rows;
 use lines::machine::Scan;
 use lines::words::END;
 ghost use mathlib.Core.Path.{_≡_};
@@ -32,7 +33,7 @@ fn scanned(word: &[u8]) -> Scan
     let mut i = 0;
     while i < word.len() {
         room -= 1;
-        s = s.advance(word[i]).within(room);
+        s = s.advance(Rows::All, word[i]).within(room);
         i += 1;
     }
     s

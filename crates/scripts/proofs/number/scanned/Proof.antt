@@ -1,5 +1,5 @@
 -- `scripts::number::scanned` meets its contract. Assumes nothing.
-use Rattle.lines.specs.Machine.{opened, scan}
+use Rattle.lines.specs.Machine.{rowsOf, opened, scan}
 use Rattle.lines.specs.Words.{endWord, allRows}
 use Rattle.lines.specs.declared.machine.Scan.the-variants.{Start}
 use Rattle.scripts.specs.Numbers.{afterEnd}
@@ -49,6 +49,7 @@ loop-less : tie.Need-loop-less Inv-loop μ-loop
 loop-less c = search needs
 
 loop-again : tie.Need-loop-again Inv-loop μ-loop
+unfolding rowsOf
 loop-again c = let l = c .before .before .before .before .loop in
     let w = c .before .before .before .before .before .before .before .args .word .now in
     (omega arith, omega arith, l .inv .2 ∙ rw (c .within .ensures, c .before .advance .ensures) (scan-on allRows (l .room) (l .s) (l .i) (length w) w (omega arith) (omega arith) (omega arith)))
