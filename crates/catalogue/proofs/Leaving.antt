@@ -1,50 +1,48 @@
 -- What a call leaves: accepted, a sound image, on which no call is refused with 1; refused, the image and the log buffer as they were.
 -- Assumes nothing.
-use Prim.Native.Nat.{ℕ, _+_, _≤_, _<_}
-use mathlib.Core.Path.{_≡_, refl, ap, _∙_, subst}
-use mathlib.Core.Bool.{Bool, true, false, cond}
+use Prim.Native.Nat.{ℕ, _+_, _≤_}
+use mathlib.Core.Path.{_≡_, refl, sym, ap, _∙_, subst}
+use mathlib.Core.Bool.{Bool, true, false}
 use mathlib.Core.List.{List}
 use mathlib.Core.Logic.{_≢_}
 use native.Mathlib.Omega.{arith}
 use lib.Dec.{leb}
-use borrow.Author.Tests.{leb-true}
 use lib.ListN.{length, take}
 use Rattle.kinds.specs.declared.Name.{Name}
 use Rattle.kinds.specs.declared.Partition.{Partition}
 use Rattle.kinds.specs.declared.Record.{Record}
 use Rattle.kinds.specs.declared.Outlist.{Outlist}
 use Rattle.kinds.specs.declared.Operation.{Operation}
+use Rattle.kinds.specs.declared.Single.the-variants.{Close, Local}
 use Rattle.kinds.specs.declared.Refusal.{Refusal}
 use Rattle.kinds.specs.declared.Verdict.{Verdict}
 use Rattle.kinds.specs.declared.Verdict.the-variants.{Accepted, Refused}
+use Rattle.kinds.proofs.Answers.{unlike}
 use Rattle.model.specs.Image.{Image, lengthOf}
-use Rattle.model.specs.Acts.{Act, commit, closing, local}
-use Rattle.model.specs.Judge.{check, judgeFormat}
+use Rattle.model.specs.Acts.{Act, commit, single}
+use Rattle.model.specs.Judge.{check, andThen, judgeFormat}
 use Rattle.model.specs.Sound.{isSound}
 use Rattle.model.proofs.Soundness.{limits-back}
 use Rattle.model.proofs.SoundnessActs.{act-passes, blank-passes}
 use Rattle.image.proofs.Formats.{format-true}
-use Rattle.writer.specs.Write.{splice}
-use Rattle.catalogue.specs.Call.{noRoom, Outcome, outcome, perform, judgeAct, judgeCommit, judgeForeign, judgeObject, formatOf, callOf, commitOf, closeOf, localOf, listing, listingOf, reading, readingOf, asked, askedOf}
+use Rattle.catalogue.specs.declared.Answer.the-variants.{Done, Refused as NotDone}
+use Rattle.catalogue.specs.declared.Closing.the-variants.{Refused as NotClosed}
+use Rattle.catalogue.specs.declared.Freeing.the-variants.{Refused as NotFreed}
+use Rattle.catalogue.specs.Call.{Outcome, perform, judgeAct, judgeCommit, judgeForeign, judgeObject, formatOf, callBy, callOf, commitOf, closed, closeOf, freed, localOf, listing, listingOf, reading, readingOf, asked, askedOf}
 use Rattle.catalogue.specs.Answers.{said, saidClosing, saidFreeing, saidListing, saidReading, saidAsked}
+use Rattle.catalogue.proofs.Perform.{fully, Performed, did, left, performed}
 use Rattle.catalogue.proofs.Judged.{passed, act-sound, act-judged, commit-sound, commit-judged}
 use Rattle.model.proofs.Numbers.{Among, accepted, numbered, check-among, among-wider, act-among, outlist-among, name-among, format-among}
 
-module _ {A : Type 0} (done-as : ℕ → A) (refused-as : Refusal → A) (bytes : List ℕ) (next img : Image) (log : List ℕ) (at : ℕ) where
-  -- a logged call ends in one of two ways; a refusal's number is lo or above
-  pub data Ending (lo : ℕ) (v : Verdict) : Outcome A → Type 0 where
-    ended : v ≡ Accepted → at + length bytes ≤ length log → Ending lo v (outcome (done-as (length bytes)) next (splice log at bytes))
-    turned : (r : Refusal) → lo ≤ r .number → r .number ≤ 17 → Ending lo v (outcome (refused-as r) img log)
-
-  pub ending : (lo : ℕ) (v : Verdict) → lo ≤ 17 → Among lo 16 v → Ending lo v (perform done-as refused-as v bytes next img log at)
-  unfolding perform
-  ending lo Accepted s accepted = go (leb (at + length bytes) (length log)) refl
-    where
-      go : (b : Bool) → leb (at + length bytes) (length log) ≡ b
-          → Ending lo Accepted (cond b (outcome (done-as (length bytes)) next (splice log at bytes)) (outcome (refused-as noRoom) img log))
-      go true e = ended refl (leb-true _ _ e)
-      go false e = turned noRoom s (omega arith)
-  ending lo (Refused _) s (numbered r l h) = turned r l (omega arith)
+-- a refusal's number is lo or above where the call's own list, then 17, has no lower one
+pub left-number : (lo : ℕ) (v : Verdict) (bytes log : List ℕ) (at : ℕ) → lo ≤ 17 → Among lo 16 v → (r : Refusal) → fully v bytes log at ≡ Refused r → lo ≤ r .number
+unfolding andThen check
+left-number lo Accepted bytes log at s accepted r e = go (leb (at + length bytes) (length log)) e
+  where
+    go : (b : Bool) → check b 17 0 Accepted ≡ Refused r → lo ≤ r .number
+    go true q = unlike (sym q)
+    go false q = let z : 17 ≡ r .number = cc in omega arith
+left-number lo (Refused _) bytes log at s (numbered q l h) r e = let z : q .number ≡ r .number = cc in omega arith
 
 -- what a call that answers with a number leaves: accepted (number 0), a sound image; refused, image and log buffer as they were, and never 1 on a sound image
 pub record Leaves {A : Type 0} (number : A → ℕ) (img : Image) (log : List ℕ) (o : Outcome A) : Type 0 where
@@ -56,29 +54,29 @@ pub record Leaves {A : Type 0} (number : A → ℕ) (img : Image) (log : List �
 -- of any answer type whose numbers are the refusals', and 0 where it is done
 module _ {A : Type 0} (done-as : ℕ → A) (refused-as : Refusal → A) (number : A → ℕ) (number-done : (n : ℕ) → number (done-as n) ≡ 0)
     (number-refused : (r : Refusal) → number (refused-as r) ≡ r .number) (bytes : List ℕ) (next img : Image) (log : List ℕ) (at : ℕ) where
-  module _ (lo : ℕ) (v : Verdict) where
-    accepted-next : (o : Outcome A) → Ending done-as refused-as bytes next img log at lo v o → 0 < lo → number (o .answer) ≡ 0 → (v ≡ Accepted) × (o .image ≡ next)
-    accepted-next _ (ended j r) z e = (j, refl)
-    accepted-next _ (turned r l h) z e = let f = number-refused r in absurd (omega arith)
+  module _ (v : Verdict) where
+    accepted-next : (o : Outcome A) → Performed done-as refused-as v bytes next img log at o → Among 1 16 v → number (o .answer) ≡ 0 → (v ≡ Accepted) × (o .image ≡ next)
+    accepted-next _ (did j m) a e = (j, refl)
+    accepted-next _ (left r f) a e = let n = number-refused r in let l = left-number 1 v bytes log at (omega arith) a r f in absurd (omega arith)
 
-    refused-stays : (o : Outcome A) → Ending done-as refused-as bytes next img log at lo v o → number (o .answer) ≢ 0 → (o .image ≡ img) × (o .log ≡ log)
-    refused-stays _ (ended j r) e = absurd (e (number-done (length bytes)))
-    refused-stays _ (turned r l h) e = (refl, refl)
+    refused-stays : (o : Outcome A) → Performed done-as refused-as v bytes next img log at o → number (o .answer) ≢ 0 → (o .image ≡ img) × (o .log ≡ log)
+    refused-stays _ (did j m) e = absurd (e (number-done (length bytes)))
+    refused-stays _ (left r f) e = (refl, refl)
 
-    higher : (o : Outcome A) → Ending done-as refused-as bytes next img log at lo v o → 1 < lo → number (o .answer) ≢ 1
-    higher _ (ended j r) l e = let f = number-done (length bytes) in omega arith
-    higher _ (turned r l h) k e = let f = number-refused r in omega arith
+    higher : (o : Outcome A) → Performed done-as refused-as v bytes next img log at o → Among 2 16 v → number (o .answer) ≢ 1
+    higher _ (did j m) a e = let f = number-done (length bytes) in omega arith
+    higher _ (left r f) a e = let n = number-refused r in let l = left-number 2 v bytes log at (omega arith) a r f in omega arith
 
   pub leaves : (v : Verdict) → Among 1 16 v → (isSound img ≡ true → Among 2 16 v) → (v ≡ Accepted → isSound next ≡ true)
       → Leaves number img log (perform done-as refused-as v bytes next img log at)
   leaves v a b s =
       let o : Outcome A = perform done-as refused-as v bytes next img log at in
-      let end : Ending done-as refused-as bytes next img log at 1 v o = ending done-as refused-as bytes next img log at 1 v (omega arith) a in
+      let p : Performed done-as refused-as v bytes next img log at o = performed done-as refused-as v bytes next img log at in
       record {
-        sound = λ e. let n = accepted-next 1 v o end (omega arith) e in ap isSound (n .1) ∙ s (n .0);
-        image-stays = λ e. refused-stays 1 v o end e .0;
-        log-stays = λ e. refused-stays 1 v o end e .1;
-        not-1 = λ z. higher 2 v o (ending done-as refused-as bytes next img log at 2 v (omega arith) (b z)) (omega arith);
+        sound = λ e. let n = accepted-next v o p a e in ap isSound (n .1) ∙ s (n .0);
+        image-stays = λ e. refused-stays v o p e .0;
+        log-stays = λ e. refused-stays v o p e .1;
+        not-1 = λ z. higher v o p (b z);
       }
 
 -- 1 is the call's own first check
@@ -96,12 +94,23 @@ module _ (img : Image) (log : List ℕ) (at : ℕ) where
       leaves _ _ (λ a. said a .number) (λ n. refl) (λ r. refl) _ _ img log at _ (among-wider 1 16 _ (omega arith) (omega arith) a)
       (λ z. among-wider 2 16 _ (omega arith) (omega arith) a) (λ j. blank-passes P S (limits-back P S (format-true P S (lengthOf img) j .0)))
 
-  -- open and trace
+  -- an act's call, whatever the form of its answer
+  call-leaves : {A : Type 0} (done-as : ℕ → A) (refused-as : Refusal → A) (number : A → ℕ) → ((n : ℕ) → number (done-as n) ≡ 0) → ((r : Refusal) → number (refused-as r) ≡ r .number)
+      → (a : Act) → Leaves number img log (callBy done-as refused-as img a log at)
+  unfolding callBy judgeAct
+  call-leaves done-as refused-as number d n a =
+      leaves done-as refused-as number d n _ _ img log at _ (unsound-among img _ (act-among _ _ img a)) (sound-among img _ (act-among _ _ img a))
+      (λ j. act-passes img a (act-sound img a j) (act-judged img a j))
+
+  -- a call that answers its record's length alone
   pub act-leaves : (a : Act) → Leaves (λ a. said a .number) img log (callOf img a log at)
-  unfolding callOf judgeAct
-  act-leaves a =
-      leaves _ _ (λ a. said a .number) (λ n. refl) (λ r. refl) _ _ img log at _ (unsound-among img _ (act-among _ _ img a))
-      (sound-among img _ (act-among _ _ img a)) (λ j. act-passes img a (act-sound img a j) (act-judged img a j))
+  act-leaves a = call-leaves Done NotDone (λ a. said a .number) (λ n. refl) (λ r. refl) a
+
+  pub close-leaves : Leaves (λ a. saidClosing a .number) img log (closeOf img log at)
+  close-leaves = call-leaves (closed img) NotClosed (λ a. saidClosing a .number) (λ n. refl) (λ r. refl) (single Close)
+
+  pub local-leaves : (p : Partition) → Leaves (λ a. saidFreeing a .number) img log (localOf img p log at)
+  local-leaves p = call-leaves (freed img p) NotFreed (λ a. saidFreeing a .number) (λ n. refl) (λ r. refl) (single (Local p))
 
   pub commit-leaves : (ops : List Operation) (n : ℕ) → Leaves (λ a. said a .number) img log (commitOf img ops n log at)
   unfolding commitOf judgeCommit
@@ -109,19 +118,6 @@ module _ (img : Image) (log : List ℕ) (at : ℕ) where
       let a = check-among _ 6 0 _ (omega arith) (omega arith) (act-among _ _ img (commit (take n ops))) in
       leaves _ _ (λ a. said a .number) (λ n. refl) (λ r. refl) _ _ img log at _ (unsound-among img _ a)
       (sound-among img _ a) (λ j. act-passes img (commit (take n ops)) (commit-sound img ops n j) (commit-judged img ops n j))
-
-  pub close-leaves : Leaves (λ a. saidClosing a .number) img log (closeOf img log at)
-  unfolding closeOf judgeAct
-  close-leaves =
-      leaves _ _ (λ a. saidClosing a .number) (λ n. refl) (λ r. refl) _ _ img log at _ (unsound-among img _ (act-among _ _ img closing))
-      (sound-among img _ (act-among _ _ img closing)) (λ j. act-passes img closing (act-sound img closing j) (act-judged img closing j))
-
-  pub local-leaves : (p : Partition) → Leaves (λ a. saidFreeing a .number) img log (localOf img p log at)
-  unfolding localOf judgeAct
-  local-leaves p =
-      let a = act-among _ _ img (local (p .0)) in
-      leaves _ _ (λ a. saidFreeing a .number) (λ n. refl) (λ r. refl) _ _ img log at _ (unsound-among img _ a) (sound-among img _ a)
-      (λ j. act-passes img (local (p .0)) (act-sound img (local (p .0)) j) (act-judged img (local (p .0)) j))
 
 -- the questions: on a sound image they are never refused with 1
 module _ (img : Image) (n : Name) where

@@ -9,21 +9,23 @@ use Rattle.kinds.specs.Answers.{blankRecord, noNames}
 use Rattle.kinds.specs.declared.Name.{Name}
 use Rattle.kinds.specs.declared.Partition.{Partition}
 use Rattle.kinds.specs.declared.Operation.{Operation}
+use Rattle.kinds.specs.declared.Single.{Single}
+use Rattle.kinds.specs.declared.Single.the-variants.{Open, Trace, Close, Local}
 use Rattle.kinds.specs.declared.Record.{Record}
 use Rattle.kinds.specs.declared.Outlist.{Outlist}
 use Rattle.kinds.specs.declared.Refusal.{Refusal}
 use Rattle.kinds.specs.declared.Verdict.{Verdict}
 use Rattle.kinds.specs.declared.Verdict.the-variants.{Accepted, Refused}
 use Rattle.model.specs.Image.{Image, partitions, slots, count, get, lengthOf, blank, place}
-use Rattle.model.specs.Acts.{Act, commit, opening, closing, trace, local, unmarked, localFreed, apply}
+use Rattle.model.specs.Acts.{Act, commit, single, unmarked, localFreed, apply}
 use Rattle.model.specs.Judge.{check, judge, judgeFormat, judgeOutlist, judgeName}
 use Rattle.model.specs.Questions.{readOf, ask}
 use Rattle.model.specs.Outlist.{outlist}
 use Rattle.model.specs.Sound.{isSound}
 use Rattle.writer.specs.Record.{recordOf, newest, headingOf}
 use Rattle.writer.specs.Write.{splice}
-use Rattle.catalogue.specs.declared.Call.{Call}
-use Rattle.catalogue.specs.declared.Call.the-variants.{Open, Trace, Close, Local, Outlist as Foreign, Object}
+use Rattle.catalogue.specs.declared.Subject.{Subject}
+use Rattle.catalogue.specs.declared.Subject.the-variants.{Single as Acting, Outlist as Foreign, Object}
 use Rattle.catalogue.specs.declared.Answer.{Answer}
 use Rattle.catalogue.specs.declared.Answer.the-variants.{Done, Refused as NotDone}
 use Rattle.catalogue.specs.declared.Closing.{Closing}
@@ -75,9 +77,17 @@ judgeCommit img ops n = check (isSound img) 1 0 (check (leb n mostOperations) 6 
 unfoldable pub formatOf : Image → ℕ → ℕ → List ℕ → ℕ → Outcome Answer
 formatOf img P S log at = perform Done NotDone (judgeFormat P S (lengthOf img)) (headingOf (newest P S)) (blank P S) img log at
 
--- an act's call: 1, the act's own list, 17
-unfoldable pub callOf : Image → Act → List ℕ → ℕ → Outcome Answer
-callOf img a log at = perform Done NotDone (judgeAct img a) (recordOf a) (applyIn img a) img log at
+-- an act's call, whatever the form of its answer: 1, the act's own list, 17
+module _ {A : Type 0} where
+  unfoldable pub callBy : (ℕ → A) → (Refusal → A) → Image → Act → List ℕ → ℕ → Outcome A
+  callBy done refused img a log at = perform done refused (judgeAct img a) (recordOf a) (applyIn img a) img log at
+
+abbrev pub callOf : Image → Act → List ℕ → ℕ → Outcome Answer
+callOf img a log at = callBy Done NotDone img a log at
+
+-- what comes before the act itself: it is judged, and its line written
+abbrev pub admitted : Image → Single → List ℕ → ℕ → Outcome Answer
+admitted img a log at = perform Done NotDone (judgeAct img (single a)) (recordOf (single a)) img img log at
 
 -- COMMIT 1, 6, each operation in turn, 17
 unfoldable pub commitOf : Image → List Operation → ℕ → List ℕ → ℕ → Outcome Answer
@@ -86,26 +96,25 @@ commitOf img ops n log at =
 
 -- OPEN 1, 11, 12, 17
 abbrev pub openOf : Image → List ℕ → ℕ → Outcome Answer
-openOf img log at = callOf img opening log at
+openOf img log at = callOf img (single Open) log at
 
 -- TRACE 1, 10, 7, 13, 15, 17
 abbrev pub traceOf : Image → Partition → List ℕ → ℕ → Outcome Answer
-traceOf img p log at = callOf img (trace (p .0)) log at
+traceOf img p log at = callOf img (single (Trace p)) log at
 
 -- CLOSE 1, 10, 12, 14, 16, 17; it answers the count and the number freed
 abbrev pub closed : Image → ℕ → Closing
 closed img n = Closed n (get img count) (unmarked (get img partitions * get img slots) img)
 
-unfoldable pub closeOf : Image → List ℕ → ℕ → Outcome Closing
-closeOf img log at = perform (closed img) NotClosed (judgeAct img closing) (recordOf closing) (applyIn img closing) img log at
+abbrev pub closeOf : Image → List ℕ → ℕ → Outcome Closing
+closeOf img log at = callBy (closed img) NotClosed img (single Close) log at
 
 -- LOCAL 1, 7, 12, 17; it answers the number freed
-abbrev pub freed : Image → ℕ → ℕ → Freeing
-freed img p n = Freed n (localFreed (get img partitions) (get img slots) p img)
+abbrev pub freed : Image → Partition → ℕ → Freeing
+freed img p n = Freed n (localFreed (get img partitions) (get img slots) (p .0) img)
 
-unfoldable pub localOf : Image → Partition → List ℕ → ℕ → Outcome Freeing
-localOf img p log at =
-    perform (freed img (p .0)) NotFreed (judgeAct img (local (p .0))) (recordOf (local (p .0))) (applyIn img (local (p .0))) img log at
+abbrev pub localOf : Image → Partition → List ℕ → ℕ → Outcome Freeing
+localOf img p log at = callBy (freed img p) NotFreed img (single (Local p)) log at
 
 -- OUTLIST 1, 7
 unfoldable pub judgeForeign : Image → Partition → Verdict
@@ -116,13 +125,10 @@ unfoldable pub judgeObject : Image → Name → Verdict
 judgeObject img n = check (isSound img) 1 0 (judgeName (get img partitions) (get img slots) img n)
 
 -- the verdict on each call but format and commit
-abbrev pub judgeCall : Image → Call → Verdict
-judgeCall img Open = judgeAct img opening
-judgeCall img (Trace p) = judgeAct img (trace (p .0))
-judgeCall img Close = judgeAct img closing
-judgeCall img (Local p) = judgeAct img (local (p .0))
-judgeCall img (Foreign p) = judgeForeign img p
-judgeCall img (Object n) = judgeObject img n
+abbrev pub judgeSubject : Image → Subject → Verdict
+judgeSubject img (Acting a) = judgeAct img (single a)
+judgeSubject img (Foreign p) = judgeForeign img p
+judgeSubject img (Object n) = judgeObject img n
 
 -- refused: payload 0 and four nothings
 abbrev pub reading : Verdict → Record → Reading

@@ -1,4 +1,4 @@
-pub mod Clears
+pub mod Bounds
 pub mod Sweeps
 pub mod Marking
 pub mod Listing

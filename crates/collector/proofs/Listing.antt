@@ -25,40 +25,51 @@ word-nothing S x w e = rw e
 
 -- a word that names the object at v
 module _ (S : ℕ) (x : Image) (w v : ℕ) (some : w ≢ 0) (e : v ≡ placeOf S w) where
-  word-marks : markWord S x w ≡ mark S x v
+  pub word-marks : markWord S x w ≡ mark S x v
   unfolding markWord
   word-marks = rw (ne-eqb w 0 some, ← e)
 
   pub word-stays : get x (state v) ≢ 1 → x ≡ markWord S x w
   word-stays ne = sym (word-marks ∙ mark-not S x v ne)
 
-  -- which is unmarked
-  module _ {P p : ℕ} (h : Within P S x) (l : v < P * S) (one : get x (state v) ≡ 1) {y : Image} (q : y ≡ markWord S x w) {list : List ℕ} {m : ℕ} (d : Listed S p x list m) where
-    others : (i : ℕ) → v ≢ i → marked y i ≡ marked x i
-    others i ne = ap (λ (z : Image). marked z i) (q ∙ word-marks) ∙ ap (λ (n : ℕ). eqb n 2) (mark-past h l i ne)
+-- of an image with a list, the object at v, which was unmarked, has been marked, which left y
+pub record Fresh (P S p : ℕ) (x y : Image) (v : ℕ) (list : List ℕ) (m : ℕ) : Type 0 where
+  pub within : Within P S x
+  pub place : v < P * S
+  pub one : get x (state v) ≡ 1
+  pub marks : y ≡ mark S x v
+  pub listed : Listed S p x list m
 
-    pub noted-far : partOf S v ≢ p → Listed S p y list m
-    noted-far far = record { long = d .long; todo = todo-far (d .todo) y v others (λ j b r. far (rw r (part-of P S (h .some-slot) p j b))) }
+module _ {P S p : ℕ} {x y : Image} {v : ℕ} {list : List ℕ} {m : ℕ} (h : Fresh P S p x y v list m) where
+  others : (i : ℕ) → v ≢ i → marked y i ≡ marked x i
+  others i ne = ap (λ (z : Image). marked z i) (h .marks) ∙ ap (λ (n : ℕ). eqb n 2) (mark-past (h .within) (h .place) i ne)
 
-    module _ (own : partOf S v ≡ p) where
-      slot : (s : ℕ) × (s < S) × (p * S + s ≡ v)
-      slot = slot-of P S (h .some-slot) v p own
+  pub noted-far : partOf S v ≢ p → Listed S p y list m
+  noted-far far =
+      record {
+        long = h .listed .long;
+        todo = todo-far (h .listed .todo) y v others (λ j b r. far (rw r (part-of P S (h .within .limits .some-slot) p j b)));
+      }
 
-      distinct : (i j : ℕ) → i < S → j < S → p * S + i ≡ p * S + j → i ≡ j
-      distinct i j a b r = omega arith
+  module _ (own : partOf S v ≡ p) where
+    slot : (s : ℕ) × (s < S) × (p * S + s ≡ v)
+    slot = slot-of P S (h .within .limits .some-slot) v p own
 
-      new : marked x v ≡ false
-      new = rw one
+    distinct : (i j : ℕ) → i < S → j < S → p * S + i ≡ p * S + j → i ≡ j
+    distinct i j a b r = omega arith
 
-      now : marked y v ≡ true
-      now = ap (λ (z : Image). marked z v) (q ∙ word-marks) ∙ eq-eqb _ _ (mark-one h l one)
+    new : marked x v ≡ false
+    new = rw (h .one)
 
-      pub noted-room : m < mostSlots
-      noted-room = omega (arith, h .wide, todo-room (d .todo) y v others distinct (slot .0) (slot .1) (slot .2) new now)
+    now : marked y v ≡ true
+    now = ap (λ (z : Image). marked z v) (h .marks) ∙ eq-eqb _ _ (mark-one (h .within) (h .place) (h .one))
 
-      pub noted-here : Listed S p y (set list m v) (m + 1)
-      noted-here =
-          record {
-            long = length-set list m v ∙ d .long;
-            todo = todo-more (d .todo) y v others distinct (slot .0) (slot .1) (slot .2) new now;
-          }
+    pub noted-room : m < mostSlots
+    noted-room = omega (arith, h .within .limits .slots-most, todo-room (h .listed .todo) y v others distinct (slot .0) (slot .1) (slot .2) new now)
+
+    pub noted-here : Listed S p y (set list m v) (m + 1)
+    noted-here =
+        record {
+          long = length-set list m v ∙ h .listed .long;
+          todo = todo-more (h .listed .todo) y v others distinct (slot .0) (slot .1) (slot .2) new now;
+        }

@@ -14,14 +14,14 @@ use Rattle.loops.specs.Loop.{both}
 use Rattle.loops.proofs.Tests.{both-true, clash, eq-or-ne}
 use Rattle.model.specs.Image.{Image, Key, flag, state, field, get, put, partOf, a-field}
 use Rattle.model.specs.Acts.{marked, mark, refers, target}
-use Rattle.model.proofs.Keys.{Fits, Sized, same, put-swap}
-use Rattle.model.proofs.Places.{Shape, slot-in}
+use Rattle.model.proofs.Keys.{Fits, same, put-swap}
+use Rattle.model.proofs.Places.{slot-in}
 use Rattle.model.proofs.Spreading.{Spreads}
 use Rattle.model.proofs.Adding.{Commutes}
 use Rattle.model.proofs.Moves.{newMark, newMark-state, mark-keeps}
 use Rattle.model.proofs.Tracing.{refers-is, refers-so, mark-read}
 use Rattle.image.specs.Within.{Within}
-use Rattle.image.proofs.Within.{part-in, within-mark}
+use Rattle.image.proofs.Within.{flag-in, within-mark}
 
 -- an object that is marked, or that a mark marks
 abbrev pub markable : Image → ℕ → Bool
@@ -55,11 +55,8 @@ mark-had : (S : ℕ) (x : Image) (i : ℕ) → marked x i ≡ true → mark S x 
 mark-had S x i e = let two : get x (state i) ≡ 2 = eqb-true _ _ e in mark-not S x i (λ q. omega arith)
 
 module _ {P S : ℕ} {x : Image} (h : Within P S x) {i : ℕ} (l : i < P * S) where
-  shape : Shape P S
-  shape = record { some-partition = omega (arith, part-in P S i (h .some-slot) l); partitions-most = h .small; some-slot = h .some-slot; slots-most = h .wide }
-
   pub mark-other : (μ : Key) → Fits μ → same (state i) μ ≡ false → same (flag (partOf S i)) μ ≡ false → get (mark S x i) μ ≡ get x μ
-  mark-other μ f a b = mark-read P S shape x i μ l f a b
+  mark-other μ f a b = mark-read P S (h .limits) x i μ l f a b
 
   mark-field : (j k : ℕ) → k < 4 → get (mark S x i) (field j k) ≡ get x (field j k)
   mark-field j k m = mark-other (field j k) m refl refl
@@ -67,12 +64,11 @@ module _ {P S : ℕ} {x : Image} (h : Within P S x) {i : ℕ} (l : i < P * S) wh
   pub mark-past : (j : ℕ) → i ≢ j → get (mark S x i) (state j) ≡ get x (state j)
   mark-past j ne = mark-other (state j) tt (ne-eqb i j ne) refl
 
-  mark-is : get x (state i) ≡ 1 → mark S x i ≡ newMark P S shape x i
-  mark-is e = mark-keeps P S shape (λ y. y ≡ newMark P S shape x i) x i (λ q. refl) (λ ne. absurd (ne e))
+  mark-is : get x (state i) ≡ 1 → mark S x i ≡ newMark P S (h .limits) x i
+  mark-is e = mark-keeps P S (h .limits) (λ y. y ≡ newMark P S (h .limits) x i) x i (λ q. refl) (λ ne. absurd (ne e))
 
   pub mark-one : get x (state i) ≡ 1 → get (mark S x i) (state i) ≡ 2
-  unfolding Sized
-  mark-one e = rw (mark-is e) (newMark-state P S shape x i l (h .long))
+  mark-one e = rw (mark-is e) (newMark-state P S (h .limits) x i l (h .long))
 
   mark-can : markable x i ≡ true → get (mark S x i) (state i) ≡ 2
   mark-can e = ⊎-elim (λ q. rw (mark-not S x i (λ r. omega arith)) q) mark-one (markable-is x i e)
@@ -100,10 +96,10 @@ module _ {P S : ℕ} {x : Image} (h : Within P S x) {i j : ℕ} (l : i < P * S) 
       g = flag (partOf S j)
 
       li : partOf S i < 16
-      li = omega (arith, part-in P S i (h .some-slot) l, h .small)
+      li = flag-in P S x h i l
 
       lj : partOf S j < 16
-      lj = omega (arith, part-in P S j (h .some-slot) m, h .small)
+      lj = flag-in P S x h j m
 
       flags : Dec (partOf S i ≡ partOf S j) → put (put x f 0) g 0 ≡ put (put x g 0) f 0
       flags (yes q) = rw q
@@ -151,5 +147,5 @@ spreads P S p inp wanted =
       target-add = λ x i j k w u m. rw (mark-field w (u .place) j k m);
       inside = λ x j k w l m e.
           let b = passes-is S wanted x (p * S + j) k e in
-          record { place = w .refs (field (p * S + j) k) (a-field (slot-in P S (w .some-slot) p j inp l) m) (b .0); may = b .2 };
+          record { place = w .refs (field (p * S + j) k) (a-field (slot-in P S (w .limits .some-slot) p j inp l) m) (b .0); may = b .2 };
     }

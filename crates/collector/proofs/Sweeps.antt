@@ -1,40 +1,36 @@
--- Every step of a sweep keeps an image within its bounds.
+-- What the sweeps of open and close, with the words put around them, and the end of a trace come to.
 -- Assumes nothing.
-use Prim.Native.Nat.{ℕ, _≤_, _<_, _*_}
-use mathlib.Core.Path.{_≡_, sym, subst}
-use mathlib.Core.Bool.{Bool, true, false, cond}
+use Prim.Native.Nat.{ℕ, _+_, _*_, _≤_}
+use mathlib.Core.Path.{_≡_}
+use native.Mathlib.Omega.{arith}
 use lib.Dec.{eqb}
 use Rattle.loops.specs.Loop.{each}
-use Rattle.loops.proofs.Loops.{each-keeps, tally-le}
-use Rattle.model.specs.Image.{Image, root, flag, state, get, put, a-root}
-use Rattle.model.specs.Acts.{clear, settle, unmarked}
+use Rattle.loops.proofs.Loops.{tally-le}
+use Rattle.kinds.specs.Names.{mostPartitions}
+use Rattle.model.specs.Image.{Image, flag, state, phase, count, allowance, anchors, get, put}
+use Rattle.model.specs.Acts.{unmarked, unclean, markRoots, allow, openUp, finish, shut, closeUp}
+use Rattle.model.specs.Outlist.{mostPlaces}
 use Rattle.image.specs.Within.{Within}
-use Rattle.image.proofs.Within.{within-put, within-markWord}
-use Rattle.collector.specs.declared.Sweep.{Sweep}
+use Rattle.image.proofs.Within.{places}
 use Rattle.collector.specs.declared.Sweep.the-variants.{Flags, Roots, Slots}
-use Rattle.collector.specs.Sweeps.{stepOf, Reaches}
-use Rattle.collector.proofs.Clears.{within-clear}
+use Rattle.collector.specs.Sweeps.{swept}
 
-module _ (P S : ℕ) where
-  within-settle : (x : Image) (j : ℕ) → Within P S x → j < P * S → Within P S (settle S x j)
-  unfolding settle
-  within-settle x j h l = go (eqb (get x (state j)) 1) (eqb (get x (state j)) 2)
-    where
-      go : (a b : Bool) → Within P S (cond a (clear S x j) (cond b (put x (state j) 1) x))
-      go true b = within-clear h j l
-      go false true = within-put P S x h (state j) 1 tt
-      go false false = h
-
-  pub within-step : (what : Sweep) (x : Image) (i : ℕ) → Within P S x → Reaches P S what i → Within P S (stepOf S what x i)
-  unfolding stepOf
-  within-step Flags x i h l = within-put P S x h (flag i) 0 l
-  within-step Roots x i h l = within-markWord P S x h (get x (root i)) (h .refs (root i) (a-root l))
-  within-step Slots x i h l = within-settle x i h l
-
-  pub within-swept : (what : Sweep) (n : ℕ) (x y : Image) → Within P S x → ((i : ℕ) → i < n → Reaches P S what i) → y ≡ each n (stepOf S what) x → Within P S y
-  within-swept what n x y h r e =
-      subst (Within P S) (sym e) (each-keeps (Within P S) n (stepOf S what) (λ z i l g. within-step what z i g (r i l)) x h)
-
-pub unmarked-le : (n : ℕ) (x : Image) → unmarked n x ≤ n
+-- no more objects are unmarked than there can be places
+pub unmarked-few : {P S n : ℕ} {x : Image} → Within P S x → n ≡ unmarked (P * S) x → n ≤ mostPlaces
 unfolding unmarked
-unmarked-le n x = tally-le n (λ j. eqb (get x (state j)) 1)
+unmarked-few {P} {S} {x = x} w e = omega (arith, e, tally-le (P * S) (λ j. eqb (get x (state j)) 1), places w)
+
+-- open, close and the end of a trace, image by image
+module _ (P S : ℕ) (x : Image) {a b c d e : Image} where
+  pub opens : {n : ℕ} → a ≡ put x phase 1 → b ≡ each mostPartitions (swept S Flags) a → c ≡ each anchors (swept S Roots) b → n ≡ unmarked (P * S) c → d ≡ put c count 0
+      → e ≡ put d allowance (P + n) → e ≡ openUp P S x
+  unfolding openUp allow markRoots unclean swept
+  opens h₁ h₂ h₃ h₄ h₅ h₆ = rw (h₆, h₅, h₄, h₃, h₂, h₁)
+
+  pub closes : a ≡ each (P * S) (swept S Slots) x → b ≡ each mostPartitions (swept S Flags) a → c ≡ put b phase 0 → d ≡ put c count 0 → e ≡ put d allowance 0 → e ≡ closeUp P S x
+  unfolding closeUp shut unclean swept
+  closes h₁ h₂ h₃ h₄ h₅ = rw (h₅, h₄, h₃, h₂, h₁)
+
+pub finishes : (p : ℕ) (x : Image) {a b : Image} {n : ℕ} → n ≡ get x count → a ≡ put x (flag p) 1 → b ≡ put a count (n + 1) → b ≡ finish p x
+unfolding finish
+finishes p x h₁ h₂ h₃ = rw (h₃, h₂, h₁)

@@ -95,7 +95,7 @@ module _ (P S p : ℕ) (inp : p < P) where
 
   -- within p none is left,
   own-place : (y : Image) (j k : ℕ) → Within P S y → j < S → k < 4 → passes S (own S p) y (p * S + j) k ≡ true → (s : ℕ) × (s < S) × (p * S + s ≡ target S y (p * S + j) k)
-  own-place y j k h l m e = slot-of P S (h .some-slot) (target S y (p * S + j) k) p (eqb-true _ _ (passes-is S (own S p) y (p * S + j) k e .1))
+  own-place y j k h l m e = slot-of P S (h .limits .some-slot) (target S y (p * S + j) k) p (eqb-true _ _ (passes-is S (own S p) y (p * S + j) k e .1))
 
   inside-closed : (x : Image) → Within P S x → (j k : ℕ) → j < S → k < 4 → marked (inside S p x) (p * S + j) ≡ true → passes S (own S p) x (p * S + j) k ≡ true
       → marked (inside S p x) (target S x (p * S + j) k) ≡ true
@@ -120,7 +120,7 @@ module _ (P S p : ℕ) (inp : p < P) where
       (λ z j k l m a e q.
       let b = refers-is S (foreign S p) z (p * S + j) k e in
       let v : ℕ = target S z (p * S + j) k in
-      let lv : v < P * S = q .0 .refs (field (p * S + j) k) (a-field (slot-in P S (h .some-slot) p j inp l) m) (b .0) in
+      let lv : v < P * S = q .0 .refs (field (p * S + j) k) (a-field (slot-in P S (h .limits .some-slot) p j inp l) m) (b .0) in
       (within-mark P S z (q .0) v lv, mark-past (q .0) lv i (λ d. eqb-false (partOf S v) p (not-true _ (b .1)) (rw d o)) ∙ q .1))
       x (h, refl) .1
 
@@ -137,7 +137,7 @@ module _ (P S p : ℕ) (inp : p < P) where
       followed j k l m a e = pick (own S p (target S x (p * S + j) k)) refl
         where
           here : marked y (p * S + j) ≡ true
-          here = ap (λ (v : ℕ). eqb v 2) (sym (own-stays y (c .grown .ok) (p * S + j) (part-of P S (h .some-slot) p j l))) ∙ a
+          here = ap (λ (v : ℕ). eqb v 2) (sym (own-stays y (c .grown .ok) (p * S + j) (part-of P S (h .limits .some-slot) p j l))) ∙ a
 
           q : target S y (p * S + j) k ≡ target S x (p * S + j) k
           q = c .grown .targets (p * S + j) k m
@@ -162,18 +162,14 @@ module _ (P S p : ℕ) (inp : p < P) where
 
 -- the loop: from x it has come to y, and is to visit the objects of the list from number `at` on (`inp` is kept because the type of `walked` speaks of it)
 pub record Walking (P S p : ℕ) (x y : Image) (list : List ℕ) (m at : ℕ) : Type 0 where
+  pub begun : Within P S x
   pub inp : p < P
   pub listed : Listed S p y list m
   pub walked : Walked (spreads P S p inp all) x y (Left list m at)
 
-module _ {P S p : ℕ} {x : Image} (h : Within P S x) where
-  pub walking-first : {list : List ℕ} {m : ℕ} → p < P → Listed S p x list m → Walking P S p x x list m 0
-  walking-first {list} {m} inp d =
-      record {
-        inp = inp;
-        listed = d;
-        walked = walked-first (spreads P S p inp all) x list m h (d .todo);
-      }
+module _ {P S p : ℕ} {x : Image} where
+  pub walking-first : {list : List ℕ} {m : ℕ} → Within P S x → p < P → Listed S p x list m → Walking P S p x x list m 0
+  walking-first {list} {m} h inp d = record { begun = h; inp = inp; listed = d; walked = walked-first (spreads P S p inp all) x list m h (d .todo) }
 
   module _ {y : Image} {list : List ℕ} {m at : ℕ} (g : Walking P S p x y list m at) where
     pub walking-within : Within P S y
@@ -182,12 +178,13 @@ module _ {P S p : ℕ} {x : Image} (h : Within P S x) where
     -- the next object of the list is visited
     module _ (lt : at < m) (j : ℕ) (e : j ≡ getD list at 0) where
       pub next-in : j < P * S
-      next-in = let n = g .listed .todo .held at lt in rw (e, ← n .2) (slot-in P S (h .some-slot) p (n .0) (g .inp) (n .1))
+      next-in = let n = g .listed .todo .held at lt in rw (e, ← n .2) (slot-in P S (g .begun .limits .some-slot) p (n .0) (g .inp) (n .1))
 
       pub walking-next : {y' : Image} {list' : List ℕ} {m' : ℕ} → y' ≡ markFields S y j → Listed S p y' list' m' → Longer list m list' m' → (n : ℕ) → n ≡ m' → Walking P S p x y' list' n (at + 1)
       walking-next {y' = y'} {list' = list'} q d more n r =
           subst (λ (v : ℕ). Walking P S p x y' list' v (at + 1)) (sym r)
           record {
+            begun = g .begun;
             inp = g .inp;
             listed = d;
             walked =
@@ -198,4 +195,4 @@ module _ {P S p : ℕ} {x : Image} (h : Within P S x) where
     pub walking-end : m ≤ at → y ≡ outside S p (inside S p x)
     walking-end le =
         walked-same (spreads P S p (g .inp) all) (commutes P S)
-        (walked-end (spreads P S p (g .inp) all) list m at le (g .walked)) (traced P S p (g .inp) x h)
+        (walked-end (spreads P S p (g .inp) all) list m at le (g .walked)) (traced P S p (g .inp) x (g .begun))

@@ -8,10 +8,10 @@ use Rattle.collector.specs.declared.Sweep.the-variants.{Flags, Roots, Sl
 use Rattle.collector.specs.declared.Closed.{Closed}
 
 -- a partition not clean; what a root names marked; a place settled
-unfoldable pub stepOf : ℕ → Sweep → Image → ℕ → Image
-stepOf S Flags img i = put img (flag i) 0
-stepOf S Roots img i = markWord S img (get img (root i))
-stepOf S Slots img i = settle S img i
+unfoldable pub swept : ℕ → Sweep → Image → ℕ → Image
+swept S Flags img i = put img (flag i) 0
+swept S Roots img i = markWord S img (get img (root i))
+swept S Slots img i = settle S img i
 
 -- a number that a sweep comes to
 abbrev pub Reaches : ℕ → ℕ → Sweep → ℕ → Type 0

@@ -2,21 +2,21 @@
 // close are one sweep (specs/Sweeps.antt, proofs/Sweeps.antt). A trace visits its partition's objects by a list (specs/Lists.antt), each once;
 // that this comes to what the model's passes come to is proved in proofs/Walking.antt. That an act is allowed is judged in crate verdicts.
 // P and S are handed in as p and s; `Within` keeps every reference in range.
-ghost use Prim.Native.Nat.{ℕ, _*_, _+_, _<_, _≤_};
+ghost use Prim.Native.Nat.{ℕ, _*_, _<_};
 ghost use mathlib.Core.Path.{_≡_};
 ghost use mathlib.Core.Logic.{_≢_};
 ghost use lib.ListN.{length};
 ghost use Rattle.kinds.specs.Names.{mostSlots};
-ghost use Rattle.model.specs.Image.{count, get, placeOf, front, stride};
+ghost use Rattle.model.specs.Image.{count, get, placeOf, Sized};
 ghost use Rattle.model.specs.Acts.{unmarked, markWord, clear, settle, openUp, inside, outside, traceOne, closeUp};
 ghost use Rattle.model.specs.Walk.{Longer};
 ghost use Rattle.loops.specs.Loop.{each};
 ghost use Rattle.image.specs.Within.{Within};
-ghost use Rattle.collector.specs.Sweeps.{stepOf, Reaches, closedOf};
+ghost use Rattle.collector.specs.Sweeps.{swept, Reaches, closedOf};
 ghost use Rattle.collector.specs.Lists.{Listed, markFields};
 
 // What a sweep does at each number: all partitions become not clean, what roots name is marked, or places are settled.
-pub enum Sweep {
+enum Sweep {
     Flags,
     Roots,
     Slots,
@@ -33,13 +33,13 @@ const FIELDS: usize = kinds::Field::LIMIT as usize;
 
 // How many objects of the first n places are in use and unmarked.
 fn unmarked(img: &[u32], n: usize) -> usize
-    requires { ⌜ front + stride * n ≤ length (now img) ⌝ }
+    requires { ⌜ Sized n (now img) ⌝ }
     ensures { λ r. ⌜ r ≡ unmarked n (now (img .entry)) ⌝ }
 {
     let mut c: usize = 0;
     let mut j: usize = 0;
     while j < n {
-        if img[image::FRONT + image::STRIDE * j] == 1 {
+        if image::state_at(img, j) == 1 {
             c += 1;
         }
         j += 1;
@@ -51,10 +51,10 @@ fn unmarked(img: &[u32], n: usize) -> usize
 pub fn clear(img: &mut [u32], p: usize, s: usize, j: usize)
     requires { ⌜ Within p s (now img) ⌝ }
     requires { ⌜ j < p * s ⌝ }
-    ensures { λ _. ⌜ now (img .exit) ≡ clear s (now (img .entry)) j ⌝ }
+    ensures { λ _. ⌜ (now (img .exit) ≡ clear s (now (img .entry)) j) × Within p s (now (img .exit)) ⌝ }
 {
-    img[image::FRONT + image::STRIDE * j] = 0;
-    img[image::FRONT + image::STRIDE * j + 1] = 0;
+    image::put_state(img, j, 0);
+    image::put_payload(img, j, 0);
     let mut k: usize = 0;
     while k < FIELDS {
         image::release_field(&mut *img, p, s, j, k);
@@ -66,15 +66,15 @@ pub fn clear(img: &mut [u32], p: usize, s: usize, j: usize)
 fn settle(img: &mut [u32], p: usize, s: usize, j: usize)
     requires { ⌜ Within p s (now img) ⌝ }
     requires { ⌜ j < p * s ⌝ }
-    ensures { λ _. ⌜ now (img .exit) ≡ settle s (now (img .entry)) j ⌝ }
+    ensures { λ _. ⌜ (now (img .exit) ≡ settle s (now (img .entry)) j) × Within p s (now (img .exit)) ⌝ }
 {
-    let x = img[image::FRONT + image::STRIDE * j];
+    let x = image::state_at(img, j);
     if x == 1 {
         clear(img, p, s, j);
         return;
     }
     if x == 2 {
-        img[image::FRONT + image::STRIDE * j] = 1;
+        image::put_state(img, j, 1);
     }
 }
 
@@ -82,14 +82,14 @@ fn settle(img: &mut [u32], p: usize, s: usize, j: usize)
 fn step(img: &mut [u32], p: usize, s: usize, what: Sweep, i: usize)
     requires { ⌜ Within p s (now img) ⌝ }
     requires { ⌜ Reaches p s what i ⌝ }
-    ensures { λ _. ⌜ now (img .exit) ≡ stepOf s what (now (img .entry)) i ⌝ }
+    ensures { λ _. ⌜ (now (img .exit) ≡ swept s what (now (img .entry)) i) × Within p s (now (img .exit)) ⌝ }
 {
     match what {
         Sweep::Flags => {
-            img[image::FLAG + i] = 0;
+            image::put_flag(img, i, 0);
         }
         Sweep::Roots => {
-            let w = img[image::ROOT + i];
+            let w = image::root_at(img, i);
             image::mark_word(img, p, s, w);
         }
         Sweep::Slots => {
@@ -102,7 +102,7 @@ fn step(img: &mut [u32], p: usize, s: usize, what: Sweep, i: usize)
 fn each(img: &mut [u32], p: usize, s: usize, what: Sweep, n: usize)
     requires { ⌜ Within p s (now img) ⌝ }
     requires { ⌜ ((i : ℕ) → i < n → Reaches p s what i) ⌝ }
-    ensures { λ _. ⌜ now (img .exit) ≡ each n (stepOf s what) (now (img .entry)) ⌝ }
+    ensures { λ _. ⌜ (now (img .exit) ≡ each n (swept s what) (now (img .entry))) × Within p s (now (img .exit)) ⌝ }
 {
     let mut i: usize = 0;
     while i < n {
@@ -121,7 +121,7 @@ fn list_marked(img: &[u32], p: usize, s: usize, t: usize, list: &mut [u32; 64]) 
     let mut k: usize = 0;
     while k < s {
         let j = t * s + k;
-        if img[image::FRONT + image::STRIDE * j] == 2 {
+        if image::state_at(img, j) == 2 {
             list[m] = j as u32;
             m += 1;
         }
@@ -149,7 +149,7 @@ fn note(
         return m;
     }
     let j = image::place_of(w, s);
-    if img[image::FRONT + image::STRIDE * j] != 1 {
+    if image::state_at(img, j) != 1 {
         return m;
     }
     image::mark_word(&mut *img, p, s, w);
@@ -179,7 +179,7 @@ fn visit(
     let mut end = m;
     let mut k: usize = 0;
     while k < FIELDS {
-        let w = img[image::FRONT + image::STRIDE * j + 2 + k];
+        let w = image::field_at(img, j, k);
         end = note(&mut *img, p, s, t, w, &mut *list, end);
         k += 1;
     }
@@ -191,7 +191,7 @@ fn visit(
 fn walk(img: &mut [u32], p: usize, s: usize, t: usize)
     requires { ⌜ Within p s (now img) ⌝ }
     requires { ⌜ t < p ⌝ }
-    ensures { λ _. ⌜ now (img .exit) ≡ outside s t (inside s t (now (img .entry))) ⌝ }
+    ensures { λ _. ⌜ (now (img .exit) ≡ outside s t (inside s t (now (img .entry)))) × Within p s (now (img .exit)) ⌝ }
 {
     let mut list = [0u32; 64];
     let mut m = list_marked(img, p, s, t, &mut list);
@@ -208,12 +208,12 @@ pub fn open(img: &mut [u32], p: usize, s: usize)
     requires { ⌜ Within p s (now img) ⌝ }
     ensures { λ _. ⌜ now (img .exit) ≡ openUp p s (now (img .entry)) ⌝ }
 {
-    img[image::PHASE] = 1;
+    image::put_head(img, image::PHASE, 1);
     each(img, p, s, Sweep::Flags, kinds::Partition::LIMIT as usize);
     each(img, p, s, Sweep::Roots, image::ANCHORS);
     let n = unmarked(img, p * s);
-    img[image::COUNT] = 0;
-    img[image::ALLOWANCE] = (p + n) as u32;
+    image::put_head(img, image::COUNT, 0);
+    image::put_head(img, image::ALLOWANCE, (p + n) as u32);
 }
 
 // The act trace. The caller knows that one more trace can be counted.
@@ -222,10 +222,11 @@ pub fn trace(img: &mut [u32], p: usize, s: usize, t: kinds::Partition)
     requires { ⌜ (t .0 < p) × (get (now img) count < 4294967295) ⌝ }
     ensures { λ _. ⌜ now (img .exit) ≡ traceOne s (t .0) (now (img .entry)) ⌝ }
 {
-    walk(img, p, s, t.0 as usize);
-    let c = img[image::COUNT];
-    img[image::FLAG + t.0 as usize] = 1;
-    img[image::COUNT] = c + 1;
+    let q = t.0 as usize;
+    walk(img, p, s, q);
+    let c = image::head_at(img, image::COUNT);
+    image::put_flag(img, q, 1);
+    image::put_head(img, image::COUNT, c + 1);
 }
 
 // The act close.
@@ -233,13 +234,13 @@ pub fn close(img: &mut [u32], p: usize, s: usize) -> Closed
     requires { ⌜ Within p s (now img) ⌝ }
     ensures { λ r. ⌜ (now (img .exit) ≡ closeUp p s (now (img .entry))) × (r ≡ closedOf p s (now (img .entry))) ⌝ }
 {
-    let count = img[image::COUNT];
+    let count = image::head_at(img, image::COUNT);
     let freed = unmarked(img, p * s);
     each(img, p, s, Sweep::Slots, p * s);
     each(img, p, s, Sweep::Flags, kinds::Partition::LIMIT as usize);
-    img[image::PHASE] = 0;
-    img[image::COUNT] = 0;
-    img[image::ALLOWANCE] = 0;
+    image::put_head(img, image::PHASE, 0);
+    image::put_head(img, image::COUNT, 0);
+    image::put_head(img, image::ALLOWANCE, 0);
     Closed {
         count: count,
         freed: freed,

@@ -14,13 +14,13 @@ use borrow.Rule.Slice.PartMut.{midOf, postOf, putMid}
 use Rattle.journal.specs.Recover.{recoverOf}
 use Rattle.recovery.specs.declared.Recovery.{Recovery}
 use Rattle.recovery.specs.declared.Recovery.the-variants.{Kept, Refused}
-use Rattle.recovery.specs.Out.{out}
+use Rattle.recovery.specs.Answers.{out}
 use Rattle.writer.specs.Write.{splice}
 use Rattle.catalogue.specs.Call.{outcome}
 use Rattle.scripts.specs.declared.command.Next.the-variants.{Number}
 use Rattle.scripts.specs.Commands.{nextNumber}
 use Rattle.desk.specs.declared.Desk.{Desk}
-use Rattle.desk.specs.declared.Said.the-variants.{What, Ok, Recovered}
+use Rattle.desk.specs.declared.Response.the-variants.{What, Ok, Recovered}
 use Rattle.desk.specs.Desk.{turn, keeping, recoverFor, Put, put, listedFrom, bytesOf, mostBytes, putAt, putFrom, lending, lendFirst}
 
 -- lending the first n of a list

@@ -18,8 +18,8 @@ use Rattle.scripts.specs.declared.order.Order.the-variants.{Nothing, What, Imag
 use Rattle.catalogue.specs.Call.{Outcome, outcome}
 use Rattle.desk.specs.declared.Desk.{Desk}
 use Rattle.desk.specs.declared.Turn.{Turn}
-use Rattle.desk.specs.Desk.{Lent, desk, turn, lending, isCommit, afterDeed, lendFirst, stepOf}
-use Rattle.desk.specs.declared.Said.the-variants.{Ok, What as Asked}
+use Rattle.desk.specs.Desk.{Lent, desk, turn, lending, isCommit, afterDeed, lendFirst, turnOf}
+use Rattle.desk.specs.declared.Response.the-variants.{Ok, What as Asked}
 
 pub record Stays (d e : Desk) (img log : List ℕ) : Type 0 where
   pub words : e .words ≤ length img
@@ -46,8 +46,8 @@ module _ (line : List ℕ) (d : Desk) (ops : List Operation) (img log : List ℕ
       go true = record { words = l .words; bytes = l .bytes; waits = omega arith }
       go false = itself
 
-  stays : (o : Order) → Stays d ((stepOf o line d ops img log) .answer .desk) img log
-  unfolding stepOf
+  stays : (o : Order) → Stays d ((turnOf o line d ops img log) .answer .desk) img log
+  unfolding turnOf
   stays Nothing = itself
   stays What = itself
   stays (Image n) = lent n 0 (desk n (d .bytes) (d .waits)) img (λ h. record { words = h; bytes = l .bytes; waits = omega arith })
@@ -56,7 +56,7 @@ module _ (line : List ℕ) (d : Desk) (ops : List Operation) (img log : List ℕ
   stays (Wait o) = record { words = l .words; bytes = l .bytes; waits = omega arith }
   stays (Deed x) = committed x
 
-  pub step-stays : (o : Order) (t : Turn) (img′ log′ : List ℕ) → outcome t img′ log′ ≡ stepOf o line d ops img log → Stays d (t .desk) img log
+  pub step-stays : (o : Order) (t : Turn) (img′ log′ : List ℕ) → outcome t img′ log′ ≡ turnOf o line d ops img log → Stays d (t .desk) img log
   step-stays o t img′ log′ q = subst (λ (r : Outcome Turn). Stays d (r .answer .desk) img log) (sym q) (stays o)
 
 -- what only looks, waits, or is no command
@@ -67,8 +67,8 @@ pub data Leaving : Order → Type 0 where
   looks : {l : A-look} → Leaving (Deed (Look l))
 
 pub leaves : (o : Order) → Leaving o → (line : List ℕ) (d : Desk) (ops : List Operation) (img log : List ℕ)
-    → ((stepOf o line d ops img log) .image ≡ img) × ((stepOf o line d ops img log) .log ≡ log)
-unfolding stepOf
+    → ((turnOf o line d ops img log) .image ≡ img) × ((turnOf o line d ops img log) .log ≡ log)
+unfolding turnOf
 leaves Nothing nothing line d ops img log = (refl, refl)
 leaves What what line d ops img log = (refl, refl)
 leaves (Wait o) waits line d ops img log = (refl, refl)

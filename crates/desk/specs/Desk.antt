@@ -5,6 +5,7 @@ use mathlib.Core.List.{List, [], _∷_, _++_}
 use lib.Dec.{ltb, leb}
 use lib.ListN.{length, take, drop, set, replicate}
 use Rattle.kinds.specs.declared.Operation.{Operation}
+use Rattle.kinds.specs.declared.Single.the-variants.{Open, Trace, Close, Local}
 use Rattle.kinds.specs.declared.Verdict.{Verdict}
 use Rattle.kinds.specs.declared.Verdict.the-variants.{Accepted, Refused}
 use Rattle.loops.specs.Loop.{both}
@@ -19,13 +20,13 @@ use Rattle.scripts.specs.declared.command.Next.the-variants.{Number, Nothing as
 use Rattle.scripts.specs.declared.order.Look.{Look as A-look}
 use Rattle.scripts.specs.declared.order.Look.the-variants.{Read, Ask, Outlist, Digest, Show, Log, Help}
 use Rattle.scripts.specs.declared.order.Deed.{Deed as A-deed}
-use Rattle.scripts.specs.declared.order.Deed.the-variants.{Word, Format, Commit, Open, Trace, Close, Local, Recover, Look}
+use Rattle.scripts.specs.declared.order.Deed.the-variants.{Word, Format, Commit, Single, Recover, Look}
 use Rattle.scripts.specs.declared.order.Order.{Order}
 use Rattle.scripts.specs.declared.order.Order.the-variants.{Nothing, What, Image as Lend-words, Buffer as Lend-bytes, Bytes, Wait, Deed}
 use Rattle.scripts.specs.Commands.{nextNumber}
 use Rattle.desk.specs.declared.Desk.{Desk}
-use Rattle.desk.specs.declared.Said.{Said}
-use Rattle.desk.specs.declared.Said.the-variants.{Nothing as Unanswered, What as Asked-what, Ok, Waits, Done, Closed, Freed, Recovered, Look as Seen}
+use Rattle.desk.specs.declared.Response.{Response}
+use Rattle.desk.specs.declared.Response.the-variants.{Nothing as Unanswered, What as Asked-what, Ok, Waits, Done, Closed, Freed, Recovered, Look as Seen}
 use Rattle.desk.specs.declared.Turn.{Turn}
 
 -- no more words and bytes are lent than there are
@@ -36,7 +37,7 @@ pub record Lent (d : Desk) (img log : List ℕ) : Type 0 where
 abbrev pub desk : ℕ → ℕ → ℕ → Desk
 desk m n k = record { words = m; bytes = n; waits = k }
 
-abbrev pub turn : Desk → Said → Turn
+abbrev pub turn : Desk → Response → Turn
 turn d s = record { desk = d; said = s }
 
 -- another form of the answer
@@ -57,18 +58,18 @@ keeping Accepted k = Kept k
 keeping (Refused r) k = NotKept r
 
 -- recovery of the first n bytes of the log buffer
-unfoldable pub recoverFor : ℕ → Image → List ℕ → Outcome Said
+unfoldable pub recoverFor : ℕ → Image → List ℕ → Outcome Response
 recoverFor n img log = cond (leb n (length log)) (recovered (recoverOf (take n log) (length img))) (outcome Asked-what img log)
   where
-    recovered : A-recovery → Outcome Said
+    recovered : A-recovery → Outcome Response
     recovered r = outcome (Recovered (keeping (r .verdict) (r .kept))) (r .image) log
 
 -- an answer beside the words or bytes that are left
 pub record Put : Type 0 where
-  pub said : Said
+  pub said : Response
   pub list : List ℕ
 
-abbrev pub put : Said → List ℕ → Put
+abbrev pub put : Response → List ℕ → Put
 put s xs = record { said = s; list = xs }
 
 -- one word
@@ -86,18 +87,18 @@ past (Log n) lent = ltb lent n
 past Help lent = false
 
 -- what is seen on a log buffer of so many bytes
-unfoldable pub seenFor : A-look → ℕ → Said
+unfoldable pub seenFor : A-look → ℕ → Response
 seenFor l lent = cond (past l lent) Asked-what (Seen l)
 
 -- A DEED, with n operations waiting
-abbrev pub deedOf : A-deed → List Operation → ℕ → Image → List ℕ → Outcome Said
+abbrev pub deedOf : A-deed → List Operation → ℕ → Image → List ℕ → Outcome Response
 deedOf (Word i v) ops n img log = outcome (putWord i v img .said) (putWord i v img .list) log
 deedOf (Format p s at) ops n img log = answered Done (formatOf img p s log at)
 deedOf (Commit at) ops n img log = answered Done (commitOf img ops n log at)
-deedOf (Open at) ops n img log = answered Done (openOf img log at)
-deedOf (Trace p at) ops n img log = answered Done (traceOf img p log at)
-deedOf (Close at) ops n img log = answered Closed (closeOf img log at)
-deedOf (Local p at) ops n img log = answered Freed (localOf img p log at)
+deedOf (Single Open at) ops n img log = answered Done (openOf img log at)
+deedOf (Single (Trace p) at) ops n img log = answered Done (traceOf img p log at)
+deedOf (Single Close at) ops n img log = answered Closed (closeOf img log at)
+deedOf (Single (Local p) at) ops n img log = answered Freed (localOf img p log at)
 deedOf (Recover k) ops n img log = recoverFor k img log
 deedOf (Look l) ops n img log = outcome (seenFor l (length log)) img log
 
@@ -167,10 +168,7 @@ abbrev pub isCommit : A-deed → Bool
 isCommit (Word i v) = false
 isCommit (Format p s at) = false
 isCommit (Commit at) = true
-isCommit (Open at) = false
-isCommit (Trace p at) = false
-isCommit (Close at) = false
-isCommit (Local p at) = false
+isCommit (Single a at) = false
 isCommit (Recover n) = false
 isCommit (Look l) = false
 
@@ -178,11 +176,11 @@ unfoldable pub afterDeed : A-deed → Desk → Desk
 afterDeed x d = cond (isCommit x) (desk (d .words) (d .bytes) 0) d
 
 -- A LINE: what it asks for, and its bytes
-unfoldable pub stepOf : Order → List ℕ → Desk → List Operation → Image → List ℕ → Outcome Turn
-stepOf Nothing line d ops img log = outcome (turn d Unanswered) img log
-stepOf What line d ops img log = outcome (turn d Asked-what) img log
-stepOf (Lend-words n) line d ops img log = outcome (wordsFor n d img .turn) (wordsFor n d img .list) log
-stepOf (Lend-bytes n) line d ops img log = outcome (bytesFor n d log .turn) img (bytesFor n d log .list)
-stepOf (Bytes from) line d ops img log = outcome (turn d (putOn (d .bytes) line from log .said)) img (putOn (d .bytes) line from log .list)
-stepOf (Wait o) line d ops img log = outcome (turn (desk (d .words) (d .bytes) (d .waits + 1)) (Waits (d .waits + 1))) img log
-stepOf (Deed x) line d ops img log = answered (turn (afterDeed x d)) (onLent d (deedOf x ops (d .waits)) img log)
+unfoldable pub turnOf : Order → List ℕ → Desk → List Operation → Image → List ℕ → Outcome Turn
+turnOf Nothing line d ops img log = outcome (turn d Unanswered) img log
+turnOf What line d ops img log = outcome (turn d Asked-what) img log
+turnOf (Lend-words n) line d ops img log = outcome (wordsFor n d img .turn) (wordsFor n d img .list) log
+turnOf (Lend-bytes n) line d ops img log = outcome (bytesFor n d log .turn) img (bytesFor n d log .list)
+turnOf (Bytes from) line d ops img log = outcome (turn d (putOn (d .bytes) line from log .said)) img (putOn (d .bytes) line from log .list)
+turnOf (Wait o) line d ops img log = outcome (turn (desk (d .words) (d .bytes) (d .waits + 1)) (Waits (d .waits + 1))) img log
+turnOf (Deed x) line d ops img log = answered (turn (afterDeed x d)) (onLent d (deedOf x ops (d .waits)) img log)

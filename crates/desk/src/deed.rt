@@ -1,6 +1,7 @@
 // The deeds on what is lent.
-use crate::Said;
+use crate::Response;
 use kinds::Operation;
+use kinds::Single;
 use scripts::order::Deed;
 use scripts::order::Look;
 ghost use mathlib.Core.Path.{_≡_};
@@ -8,24 +9,24 @@ ghost use Rattle.catalogue.specs.Call.{outcome};
 ghost use Rattle.desk.specs.Desk.{deedOf, recoverFor, past, seenFor, put, putWord};
 
 // One word of the image.
-fn word(i: usize, v: u32, img: &mut [u32]) -> Said
+fn word(i: usize, v: u32, img: &mut [u32]) -> Response
     ensures { λ r. ⌜ put r (now (img .exit)) ≡ putWord i v (now (img .entry)) ⌝ }
 {
     if i < img.len() {
         img[i] = v;
-        return Said::Ok;
+        return Response::Ok;
     }
-    Said::What
+    Response::What
 }
 
 // Recovery of the first n bytes of the log buffer.
-fn recover(n: usize, img: &mut [u32], log: &[u8]) -> Said
+fn recover(n: usize, img: &mut [u32], log: &[u8]) -> Response
     ensures { λ r. ⌜ outcome r (now (img .exit)) (now (log .entry)) ≡ recoverFor n (now (img .entry)) (now (log .entry)) ⌝ }
 {
     if log.len() < n {
-        return Said::What;
+        return Response::What;
     }
-    Said::Recovered(recovery::recover(img, &log[..n]))
+    Response::Recovered(recovery::recover(img, &log[..n]))
 }
 
 // Whether a look asks for more bytes than are lent.
@@ -44,13 +45,13 @@ fn past(l: Look, lent: usize) -> bool
 }
 
 // What is seen on a log buffer of so many bytes.
-fn seen(l: Look, lent: usize) -> Said
+fn seen(l: Look, lent: usize) -> Response
     ensures { λ r. ⌜ r ≡ seenFor l lent ⌝ }
 {
     if past(l, lent) {
-        return Said::What;
+        return Response::What;
     }
-    Said::Look(l)
+    Response::Look(l)
 }
 
 // A deed, with n operations waiting.
@@ -60,17 +61,19 @@ pub(crate) fn deed(
     n: usize,
     img: &mut [u32],
     log: &mut [u8],
-) -> Said
+) -> Response
     ensures { λ r. ⌜ outcome r (now (img .exit)) (now (log .exit)) ≡ deedOf x ops n (now (img .entry)) (now (log .entry)) ⌝ }
 {
     match x {
         Deed::Word(i, v) => word(i, v, img),
-        Deed::Format(p, s, at) => Said::Done(catalogue::format(img, p, s, log, at)),
-        Deed::Commit(at) => Said::Done(catalogue::commit(img, ops, n, log, at)),
-        Deed::Open(at) => Said::Done(catalogue::open(img, log, at)),
-        Deed::Trace(p, at) => Said::Done(catalogue::trace(img, p, log, at)),
-        Deed::Close(at) => Said::Closed(catalogue::close(img, log, at)),
-        Deed::Local(p, at) => Said::Freed(catalogue::local(img, p, log, at)),
+        Deed::Format(p, s, at) => Response::Done(catalogue::format(img, p, s, log, at)),
+        Deed::Commit(at) => Response::Done(catalogue::commit(img, ops, n, log, at)),
+        Deed::Single(a, at) => match a {
+            Single::Open => Response::Done(catalogue::open(img, log, at)),
+            Single::Trace(p) => Response::Done(catalogue::trace(img, p, log, at)),
+            Single::Close => Response::Closed(catalogue::close(img, log, at)),
+            Single::Local(p) => Response::Freed(catalogue::local(img, p, log, at)),
+        },
         Deed::Recover(k) => recover(k, img, &*log),
         Deed::Look(l) => seen(l, log.len()),
     }

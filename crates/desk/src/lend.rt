@@ -1,6 +1,6 @@
 // The commands that change by hand what is lent: image, buffer, bytes.
 use crate::Desk;
-use crate::Said;
+use crate::Response;
 use crate::Turn;
 use scripts::command::Next;
 use scripts::command::next_number;
@@ -14,7 +14,7 @@ pub(crate) fn lend_words(n: usize, d: Desk, img: &mut [u32]) -> Turn
     ensures { λ r. ⌜ lending r (now (img .exit)) ≡ wordsFor n d (now (img .entry)) ⌝ }
 {
     if img.len() < n {
-        return d.says(Said::What);
+        return d.says(Response::What);
     }
     image::clear(&mut img[..n]);
     Turn {
@@ -23,7 +23,7 @@ pub(crate) fn lend_words(n: usize, d: Desk, img: &mut [u32]) -> Turn
             bytes: d.bytes,
             waits: d.waits,
         },
-        said: Said::Ok,
+        said: Response::Ok,
     }
 }
 
@@ -43,7 +43,7 @@ pub(crate) fn lend_bytes(n: usize, d: Desk, log: &mut [u8]) -> Turn
     ensures { λ r. ⌜ lending r (now (log .exit)) ≡ bytesFor n d (now (log .entry)) ⌝ }
 {
     if log.len() < n {
-        return d.says(Said::What);
+        return d.says(Response::What);
     }
     dot(&mut log[..n]);
     Turn {
@@ -52,7 +52,7 @@ pub(crate) fn lend_bytes(n: usize, d: Desk, log: &mut [u8]) -> Turn
             bytes: n,
             waits: d.waits,
         },
-        said: Said::Ok,
+        said: Response::Ok,
     }
 }
 
@@ -90,29 +90,29 @@ fn listed(line: &[u8], from: usize, list: &mut [u8]) -> usize
 }
 
 // One byte or more from a place on, where they stand within.
-fn put_at(at: usize, list: &[u8], log: &mut [u8]) -> Said
+fn put_at(at: usize, list: &[u8], log: &mut [u8]) -> Response
     ensures { λ r. ⌜ put r (now (log .exit)) ≡ putAt at (now (list .entry)) (now (log .entry)) ⌝ }
 {
     if list.len() == 0 {
-        return Said::What;
+        return Response::What;
     }
     if log.len() < at {
-        return Said::What;
+        return Response::What;
     }
     if log.len() - at < list.len() {
-        return Said::What;
+        return Response::What;
     }
     bytes::copy(list, &mut log[at..]);
-    Said::Ok
+    Response::Ok
 }
 
 // `bytes`: the place and the bytes, which stand in the line from a place on.
-pub(crate) fn put_bytes(line: &[u8], from: usize, log: &mut [u8]) -> Said
+pub(crate) fn put_bytes(line: &[u8], from: usize, log: &mut [u8]) -> Response
     ensures { λ r. ⌜ put r (now (log .exit)) ≡ putFrom (now (line .entry)) from (now (log .entry)) ⌝ }
 {
     match next_number(line, from) {
-        Next::Nothing => Said::What,
-        Next::Bad => Said::What,
+        Next::Nothing => Response::What,
+        Next::Bad => Response::What,
         Next::Number(at, to) => {
             let mut list = room();
             let n = listed(line, to, &mut list);

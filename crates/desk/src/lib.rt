@@ -1,5 +1,5 @@
 // The desk on which a script works: a lent image, a lent log buffer and a waiting transaction; what each line leaves of them, and what it is
-// answered. `step` is proved equal to `stepOf` (specs/Desk.antt): the catalogue's calls, recovery and the commands image, word, buffer and
+// answered. `step` is proved equal to `turnOf` (specs/Desk.antt): the catalogue's calls, recovery and the commands image, word, buffer and
 // bytes change the image and the log buffer, each as its definition says, and nothing else does; what is not lent stays as it is.
 mod deed;
 mod lend;
@@ -20,8 +20,8 @@ ghost use Prim.Native.Nat.{_+_, _≤_, _<_, _^_};
 ghost use mathlib.Core.Path.{_≡_};
 ghost use lib.ListN.{length};
 ghost use Rattle.catalogue.specs.Call.{outcome};
-ghost use Rattle.desk.specs.declared.Said.the-variants.{Waits};
-ghost use Rattle.desk.specs.Desk.{Lent, desk, turn, onLent, deedOf, put, putOn, isCommit, afterDeed, stepOf};
+ghost use Rattle.desk.specs.declared.Response.the-variants.{Waits};
+ghost use Rattle.desk.specs.Desk.{Lent, desk, turn, onLent, deedOf, put, putOn, isCommit, afterDeed, turnOf};
 
 // How many words and bytes are lent, and how many operations wait.
 pub struct Desk {
@@ -31,7 +31,7 @@ pub struct Desk {
 }
 
 // What a line is answered.
-pub enum Said {
+pub enum Response {
     // No line is written.
     Nothing,
     What,
@@ -48,7 +48,7 @@ pub enum Said {
 // The desk after a line, and the answer.
 pub struct Turn {
     pub desk: Desk,
-    pub said: Said,
+    pub said: Response,
 }
 
 impl Desk {
@@ -96,12 +96,12 @@ impl Desk {
                 bytes: self.bytes,
                 waits: n,
             },
-            said: Said::Waits(n),
+            said: Response::Waits(n),
         }
     }
 
     // The desk as it is, and an answer.
-    pub(crate) fn says(self, said: Said) -> Turn
+    pub(crate) fn says(self, said: Response) -> Turn
         ensures { λ r. ⌜ r ≡ turn self said ⌝ }
     {
         Turn {
@@ -118,10 +118,7 @@ fn is_commit(x: Deed) -> bool
         Deed::Word(_, _) => false,
         Deed::Format(_, _, _) => false,
         Deed::Commit(_) => true,
-        Deed::Open(_) => false,
-        Deed::Trace(_, _) => false,
-        Deed::Close(_) => false,
-        Deed::Local(_, _) => false,
+        Deed::Single(_, _) => false,
         Deed::Recover(_) => false,
         Deed::Look(_) => false,
     }
@@ -134,7 +131,7 @@ fn deed_on(
     ops: [Operation; Operation::LIMIT],
     img: &mut [u32],
     log: &mut [u8],
-) -> Said
+) -> Response
     requires { ⌜ Lent d (now img) (now log) ⌝ }
     ensures { λ r. ⌜ outcome r (now (img .exit)) (now (log .exit)) ≡ onLent d (deedOf x ops (d .waits)) (now (img .entry)) (now (log .entry)) ⌝ }
 {
@@ -144,7 +141,7 @@ fn deed_on(
 }
 
 // `bytes` on what is lent.
-fn bytes_on(line: &[u8], from: usize, n: usize, log: &mut [u8]) -> Said
+fn bytes_on(line: &[u8], from: usize, n: usize, log: &mut [u8]) -> Response
     requires { ⌜ n ≤ length (now log) ⌝ }
     ensures { λ r. ⌜ put r (now (log .exit)) ≡ putOn n (now (line .entry)) from (now (log .entry)) ⌝ }
 {
@@ -162,11 +159,11 @@ pub fn step(
 ) -> Turn
     requires { ⌜ Lent d (now img) (now log) ⌝ }
     requires { ⌜ d .waits + 1 < 2 ^ 64 ⌝ }
-    ensures { λ r. ⌜ outcome r (now (img .exit)) (now (log .exit)) ≡ stepOf o (now (line .entry)) d ops (now (img .entry)) (now (log .entry)) ⌝ }
+    ensures { λ r. ⌜ outcome r (now (img .exit)) (now (log .exit)) ≡ turnOf o (now (line .entry)) d ops (now (img .entry)) (now (log .entry)) ⌝ }
 {
     match o {
-        Order::Nothing => d.says(Said::Nothing),
-        Order::What => d.says(Said::What),
+        Order::Nothing => d.says(Response::Nothing),
+        Order::What => d.says(Response::What),
         Order::Image(n) => lend_words(n, d, img),
         Order::Buffer(n) => lend_bytes(n, d, log),
         Order::Bytes(from) => d.says(bytes_on(line, from, d.bytes, log)),

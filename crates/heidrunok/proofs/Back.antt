@@ -15,16 +15,17 @@ use Rattle.kinds.specs.declared.Outlist.{Outlist}
 use Rattle.kinds.specs.declared.Partition.{Partition}
 use Rattle.kinds.specs.declared.Record.{Record}
 use Rattle.kinds.specs.declared.Refusal.{Refusal}
+use Rattle.kinds.specs.declared.Single.the-variants.{Close, Local}
 use Rattle.kinds.specs.declared.Verdict.{Verdict}
 use Rattle.kinds.specs.declared.Verdict.the-variants.{Accepted, Refused}
 use Rattle.model.specs.Image.{Image}
-use Rattle.model.specs.Acts.{Act, commit, closing, local}
+use Rattle.model.specs.Acts.{Act, commit, single}
 use Rattle.model.specs.Judge.{check}
 use Rattle.model.specs.Sound.{isSound}
 use Rattle.lines.specs.Print.{Bytes}
 use Rattle.journal.specs.Recover.{Recovered, recoverOf}
 use Rattle.journal.specs.Refusals.{Refuses, no-line, no-heading, wrong-size, no-shape, misplaced, miscounted, refused-act, no-beginning}
-use Rattle.journal.proofs.Any.{refused-so}
+use Rattle.journal.proofs.AnyBytes.{refused-so}
 use Rattle.catalogue.specs.declared.Answer.{Answer}
 use Rattle.catalogue.specs.declared.Answer.the-variants.{Done, Refused as NotDone}
 use Rattle.catalogue.specs.declared.Closing.{Closing}
@@ -36,9 +37,10 @@ use Rattle.catalogue.specs.declared.Listing.{Listing}
 use Rattle.catalogue.specs.declared.Asked.{Asked}
 use Rattle.catalogue.specs.declared.Asked.the-variants.{Yes, No, Refused as NotAsked}
 use Rattle.catalogue.specs.Answers.{Said, saidVerdict, refusedWith, Totals, totals, Yield, yield, said, saidClosing, saidFreeing, saidReading, saidListing, saidAsked}
-use Rattle.catalogue.specs.Call.{Outcome, perform, judgeAct, judgeCommit, judgeForeign, judgeObject, formatOf, callOf, commitOf, closeOf, localOf, reading, readingOf, listing, listingOf, asked, askedOf}
+use Rattle.catalogue.specs.Call.{Outcome, perform, judgeAct, judgeCommit, judgeForeign, judgeObject, formatOf, callBy, callOf, commitOf, closed, closeOf, freed, localOf, reading, readingOf, listing, listingOf, asked, askedOf}
 use Rattle.model.proofs.Numbers.{Among, accepted, numbered, check-among, among-wider, act-among, name-among, outlist-among, format-among}
-use Rattle.catalogue.proofs.Leaving.{Ending, ended, turned, ending}
+use Rattle.catalogue.proofs.Perform.{Performed, did, left, performed}
+use Rattle.catalogue.proofs.Leaving.{left-number}
 use Rattle.heidrunok.specs.Face.{Restored, restored, saidRecovered}
 
 -- read back: number 0 is accepted, with the value
@@ -88,6 +90,10 @@ recoveredAs v x = record { verdict = v; kept = x .kept; image = x .image }
 abbrev pub recoveredBack : Said Restored → Recovered
 recoveredBack = readBack (recoveredAs Accepted) (λ r. recoveredAs (Refused r))
 
+-- 1 is the call's own first check
+checked : (img : Image) (v : Verdict) → Among 6 16 v → Among 1 16 (check (isSound img) 1 0 v)
+checked img v a = check-among (isSound img) 1 0 v (omega arith) (omega arith) (among-wider 1 16 v (omega arith) (omega arith) a)
+
 -- a logged call's answer is read back where those of a length are, and a refusal is said with zeros
 module _ {A B : Type 0} (done-as : B → A) (not : Refusal → A) (say : A → Said B) (zeros : B) (done : ℕ → A) where
   abbrev Backs : A → Type 0
@@ -95,11 +101,17 @@ module _ {A B : Type 0} (done-as : B → A) (not : Refusal → A) (say : A → S
 
   performed-back : ((n : ℕ) → Backs (done n)) → ((r : Refusal) → say (not r) ≡ refusedWith zeros r) → (v : Verdict) → Among 1 16 v
       → (bytes : List ℕ) (next img : Image) (log : List ℕ) (at : ℕ) → Backs (perform done not v bytes next img log at .answer)
-  performed-back d f v a bytes next img log at = go _ (ending done not bytes next img log at 1 v (omega arith) a)
+  performed-back d f v a bytes next img log at = go (performed done not v bytes next img log at)
     where
-      go : (o : Outcome A) → Ending done not bytes next img log at 1 v o → Backs (o .answer)
-      go _ (ended j l) = d _
-      go _ (turned r l h) = ap (readBack done-as (λ r b. not r)) (f r) ∙ refused-back done-as (λ r b. not r) r zeros l
+      go : {o : Outcome A} → Performed done not v bytes next img log at o → Backs (o .answer)
+      go (did j m) = d _
+      go (left r q) = ap (readBack done-as (λ r b. not r)) (f r) ∙ refused-back done-as (λ r b. not r) r zeros (left-number 1 v bytes log at (omega arith) a r q)
+
+  -- and so is an act's
+  called-back : ((n : ℕ) → Backs (done n)) → ((r : Refusal) → say (not r) ≡ refusedWith zeros r) → (img : Image) (a : Act) (log : List ℕ) (at : ℕ)
+      → Backs (callBy done not img a log at .answer)
+  unfolding callBy judgeAct
+  called-back d f img a log at = performed-back d f _ (checked img _ (act-among _ _ img a)) _ _ img log at
 
 answered : (v : Verdict) → Among 1 16 v → (bytes : List ℕ) (next img : Image) (log : List ℕ) (at : ℕ)
     → let a = perform Done NotDone v bytes next img log at .answer in answerBack (said a) ≡ a
@@ -111,19 +123,14 @@ module _ {A B : Type 0} (form : Verdict → B → A) where
   beside-back Accepted x h = refl
   beside-back (Refused r) x h = refused-back (form Accepted) (λ r. form (Refused r)) r x (h (r .number) (r .extra) refl)
 
--- 1 is the call's own first check
-checked : (img : Image) (v : Verdict) → Among 6 16 v → Among 1 16 (check (isSound img) 1 0 v)
-checked img v a = check-among (isSound img) 1 0 v (omega arith) (omega arith) (among-wider 1 16 v (omega arith) (omega arith) a)
-
 module _ (img : Image) (log : List ℕ) (at : ℕ) where
   pub format-back : (P S : ℕ) → let a = formatOf img P S log at .answer in answerBack (said a) ≡ a
   unfolding formatOf
   format-back P S = answered _ (among-wider 1 16 _ (omega arith) (omega arith) (format-among P S _)) _ _ img log at
 
-  -- open and trace
+  -- a call that answers its record's length alone
   pub act-back : (c : Act) → let a = callOf img c log at .answer in answerBack (said a) ≡ a
-  unfolding callOf judgeAct
-  act-back c = answered _ (checked img _ (act-among _ _ img c)) _ _ img log at
+  act-back c = called-back Done NotDone said 0 Done (λ n. refl) (λ r. refl) img c log at
 
   pub commit-back : (ops : List Operation) (n : ℕ) → let a = commitOf img ops n log at .answer in answerBack (said a) ≡ a
   unfolding commitOf judgeCommit
@@ -131,14 +138,10 @@ module _ (img : Image) (log : List ℕ) (at : ℕ) where
       answered _ (checked img _ (check-among _ 6 0 _ (omega arith) (omega arith) (act-among _ _ img (commit (take n ops))))) _ _ img log at
 
   pub close-back : let c = closeOf img log at .answer in closingBack (saidClosing c) ≡ c
-  unfolding closeOf judgeAct
-  close-back =
-      performed-back closedAs NotClosed saidClosing (totals 0 0 0) _ (λ n. refl) (λ r. refl) _ (checked img _ (act-among _ _ img closing)) _ _ img log at
+  close-back = called-back closedAs NotClosed saidClosing (totals 0 0 0) (closed img) (λ n. refl) (λ r. refl) img (single Close) log at
 
   pub local-back : (p : Partition) → let f = localOf img p log at .answer in freeingBack (saidFreeing f) ≡ f
-  unfolding localOf judgeAct
-  local-back p =
-      performed-back freedAs NotFreed saidFreeing (yield 0 0) _ (λ n. refl) (λ r. refl) _ (checked img _ (act-among _ _ img (local (p .0)))) _ _ img log at
+  local-back p = called-back freedAs NotFreed saidFreeing (yield 0 0) (freed img p) (λ n. refl) (λ r. refl) img (single (Local p)) log at
 
 -- no verdict has the number 0
 among-number : (v : Verdict) (k e : ℕ) → Among 1 16 v → v ≡ refuse k e → 1 ≤ k

@@ -19,7 +19,7 @@ use Rattle.model.specs.Judge.{check}
 use Rattle.model.specs.Sound.{isSound}
 use Rattle.writer.specs.Record.{recordOf}
 use Rattle.journal.specs.Recover.{Recovered}
-use Rattle.recovery.specs.Out.{out}
+use Rattle.recovery.specs.Answers.{out}
 use Rattle.recovery.specs.declared.Recovery.{Recovery}
 use Rattle.recovery.specs.declared.Recovery.the-variants.{Kept, Refused as NotKept}
 use Rattle.catalogue.specs.declared.Answer.{Answer}
@@ -77,7 +77,7 @@ module _ (img : Image) (log : List ℕ) (at : ℕ) where
   too-many true u v bs cs y z = refl
   too-many false u v bs cs y z = refl
 
-  pub commit-taken : (os qs : List Operation) (n : ℕ) → (n ≤ mostOperations → take n os ≡ take n qs) → commitOf img os n log at ≡ commitOf img qs n log at
+  commit-taken : (os qs : List Operation) (n : ℕ) → (n ≤ mostOperations → take n os ≡ take n qs) → commitOf img os n log at ≡ commitOf img qs n log at
   unfolding commitOf judgeCommit
   commit-taken os qs n h = go (leb n mostOperations) refl
     where

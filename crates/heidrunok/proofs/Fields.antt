@@ -74,7 +74,7 @@ target-named x κ s h = go (eqb (get x κ) 0) refl
     go true e = tt
     go false e =
         let u : NamesUsed (get x partitions) (get x slots) x κ = s .references κ h (eqb-false _ _ e) in
-        (omega (arith, u .partition, s .partitions-most), omega (arith, u .slot, s .slots-most))
+        (omega (arith, u .partition, s .limits .partitions-most), omega (arith, u .slot, s .limits .slots-most))
 
 abbrev AllNamed : List Field → Type 0
 AllNamed [] = Unit {0}

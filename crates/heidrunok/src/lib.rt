@@ -20,7 +20,7 @@ use recovery::Recovery;
 ghost use mathlib.Core.Path.{_≡_};
 ghost use Prim.Native.Nat.{_≤_};
 ghost use lib.ListN.{length};
-ghost use Rattle.kinds.specs.Names.{mostOperations, named, wordOf, Named};
+ghost use Rattle.kinds.specs.Names.{mostOperations, partition, named, wordOf, Named};
 ghost use Rattle.catalogue.specs.Answers.{totals, yield, said, saidClosing, saidFreeing, saidReading, saidAsked, saidListing};
 ghost use Rattle.catalogue.specs.Call.{outcome, formatOf, openOf, traceOf, closeOf, localOf, readingOf, askedOf, listingOf};
 ghost use Rattle.journal.specs.Recover.{recoverOf};
@@ -140,7 +140,7 @@ pub extern "C" fn heidrunok_trace(
     length: &mut usize,
     extra: &mut usize,
 ) -> u32
-    ensures { λ r. ⌜ outcome (told r (now (extra .exit)) (now (length .exit))) (now (img .exit)) (now (log .exit)) ≡ seen said (traceOf (now (img .entry)) (record { 0 = t }) (now (log .entry)) at) ⌝ }
+    ensures { λ r. ⌜ outcome (told r (now (extra .exit)) (now (length .exit))) (now (img .exit)) (now (log .exit)) ≡ seen said (traceOf (now (img .entry)) (partition t) (now (log .entry)) at) ⌝ }
 {
     tell(catalogue::trace(img, Partition(t), log, at), length, extra)
 }
@@ -183,7 +183,7 @@ pub extern "C" fn heidrunok_local(
     freed: &mut usize,
     extra: &mut usize,
 ) -> u32
-    ensures { λ r. ⌜ outcome (told r (now (extra .exit)) (yield (now (length .exit)) (now (freed .exit)))) (now (img .exit)) (now (log .exit)) ≡ seen saidFreeing (localOf (now (img .entry)) (record { 0 = t }) (now (log .entry)) at) ⌝ }
+    ensures { λ r. ⌜ outcome (told r (now (extra .exit)) (yield (now (length .exit)) (now (freed .exit)))) (now (img .exit)) (now (log .exit)) ≡ seen saidFreeing (localOf (now (img .entry)) (partition t) (now (log .entry)) at) ⌝ }
 {
     match catalogue::local(img, Partition(t), log, at) {
         Freeing::Freed(n, k) => {
@@ -283,7 +283,7 @@ pub extern "C" fn heidrunok_outlist(
     held: &mut usize,
     names: &mut [u32; Outlist::LIMIT],
 ) -> u32
-    ensures { λ r. ⌜ told r 0 (outlistOf (now (held .exit)) (now (names .exit))) ≡ saidListing (listingOf (now (img .entry)) (record { 0 = t })) ⌝ }
+    ensures { λ r. ⌜ told r 0 (outlistOf (now (held .exit)) (now (names .exit))) ≡ saidListing (listingOf (now (img .entry)) (partition t)) ⌝ }
 {
     let x = catalogue::outlist(img, Partition(t));
     let o = x.outlist;

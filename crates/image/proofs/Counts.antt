@@ -10,13 +10,13 @@ use lib.ListN.{length, getD, set}
 use borrow.Author.Tests.{eq-eqb, ne-eqb, eqb-false, not-true}
 use Rattle.loops.specs.Loop.{both, bit}
 use Rattle.loops.proofs.Tests.{both-true}
-use Rattle.model.specs.Image.{Image, inlist, field, front, stride, addr, get, put, placeOf, partOf, abroad, lose, gain, recount, refer, release, a-field}
+use Rattle.model.specs.Image.{Image, Key, inlist, field, front, stride, addr, get, put, placeOf, partOf, abroad, lose, gain, recount, refer, release, a-field}
 use Rattle.model.specs.Sound.{points}
-use Rattle.model.proofs.Keys.{Sized, sized-put, lose-keeps}
+use Rattle.model.proofs.Keys.{Has, has-put, lose-keeps}
 use Rattle.model.proofs.Places.{row-part, part-row}
 use Rattle.model.proofs.Counting.{counted, count-most, lose-read}
 use Rattle.image.specs.Within.{Within, countAt, Changes, Loses, Gains}
-use Rattle.image.proofs.Within.{Leads, places}
+use Rattle.image.proofs.Within.{Leads, places, has-word}
 
 abroad-some : (S j w : ℕ) → abroad S j w ≡ true → w ≢ 0
 unfolding abroad
@@ -63,6 +63,7 @@ module _ {Q : ℕ → Type 0} {S j w : ℕ} {x : Image} (h : Changes Q S j w x) 
         go false q = absurd (ne q)
 
     pub at-in : at < length x
+    unfolding Has
     at-in = rw (somewhere .1) (h .inside (somewhere .0))
 
     pub at-fits : Q (getD x at 0)
@@ -86,17 +87,16 @@ unfolding gain get put
 gain-one S j w at x e = rw (e .0, e .1)
 
 module _ {P S : ℕ} {x : Image} (h : Within P S x) (j k : ℕ) (lj : j < P * S) (lk : k < 4) where
-  inside : (w : ℕ) → Leads (P * S) S w → w ≢ 0 → addr (inlist (placeOf S w)) < length x
-  unfolding addr
-  inside w l ne = omega (arith, l ne, h .long)
+  inside : (w : ℕ) → Leads (P * S) S w → w ≢ 0 → Has x (inlist (placeOf S w))
+  inside w l ne = has-word P S x h (inlist (placeOf S w)) (l ne)
 
   pub loses : Loses S j (get x (field j k)) x
   unfolding points
   loses =
       let w : ℕ = get x (field j k) in
       record {
-        some-slot = h .some-slot;
-        wide = h .wide;
+        some-slot = h .limits .some-slot;
+        wide = h .limits .slots-most;
         inside = λ e. inside w (h .refs (field j k) (a-field lj lk)) (abroad-some S j w e);
         fits = λ e.
             let t = placeOf S w in
@@ -107,12 +107,11 @@ module _ {P S : ℕ} {x : Image} (h : Within P S x) (j k : ℕ) (lj : j < P * S)
       }
 
   pub gains : (w : ℕ) → Leads (P * S) S w → (y : Image) → y ≡ lose S j (get x (field j k)) x → Gains S j w y
-  unfolding Sized
   gains w l y e =
       record {
-        some-slot = h .some-slot;
-        wide = h .wide;
-        inside = λ a. let q : length y ≡ length x = rw e lost in rw q (inside w l (abroad-some S j w a));
+        some-slot = h .limits .some-slot;
+        wide = h .limits .slots-most;
+        inside = λ a. rw e (lost (inlist (placeOf S w)) (inside w l (abroad-some S j w a)));
         fits = λ a.
             let t = placeOf S w in
             let lt = l (abroad-some S j w a) in
@@ -123,10 +122,8 @@ module _ {P S : ℕ} {x : Image} (h : Within P S x) (j k : ℕ) (lj : j < P * S)
             rw e (omega arith);
       }
     where
-      lost : length (lose S j (get x (field j k)) x) ≡ length x
-      lost =
-          lose-keeps (λ z. length z ≡ length x) S j (get x (field j k)) x
-          (λ q. sized-put (P * S) x (inlist (placeOf S (get x (field j k)))) _ (h .long) ∙ sym (h .long)) (λ q. refl)
+      lost : (κ : Key) → Has x κ → Has (lose S j (get x (field j k)) x) κ
+      lost κ u = lose-keeps (λ z. Has z κ) S j (get x (field j k)) x (λ q. has-put x _ _ κ u) (λ q. u)
 
 -- both together, with the field's own word
 pub referred : (S : ℕ) (x : Image) (j k w : ℕ) (y z : Image) → y ≡ lose S j (get x (field j k)) x → z ≡ gain S j w y → put z (field j k) w ≡ refer S x (field j k) w

@@ -1,6 +1,6 @@
 -- Format: what its judge answers by the paper's conditions, and what putting P and S into zeros leaves.
 -- Assumes nothing.
-use Prim.Native.Nat.{ℕ, suc, _+_, _*_, _-_, _≤_}
+use Prim.Native.Nat.{ℕ, suc, _+_, _*_, _-_}
 use mathlib.Core.Path.{_≡_, refl}
 use mathlib.Core.Bool.{Bool, true, false}
 use native.Mathlib.Omega.{arith}
@@ -11,15 +11,11 @@ use Rattle.loops.proofs.Tests.{is-false, both-true}
 use Rattle.loops.specs.Loop.{both}
 use Rattle.kinds.proofs.Answers.{unlike}
 use Rattle.kinds.specs.Answers.{refuse}
-use Rattle.kinds.specs.Names.{mostPartitions, mostSlots}
 use Rattle.kinds.specs.declared.Verdict.the-variants.{Accepted}
-use Rattle.model.proofs.Soundness.{Limits, limits-true, limits-back}
+use Rattle.model.proofs.Soundness.{limits-true, limits-back}
 use Rattle.model.specs.Image.{Image, front, stride, lengthOf, size, blank}
 use Rattle.model.specs.Judge.{check, inLimits, judgeFormat}
-use Rattle.image.proofs.Within.{product}
-
-pub room : (p s : ℕ) → p ≤ mostPartitions → s ≤ mostSlots → p * s ≤ mostPartitions * mostSlots
-room p s h k = product mostPartitions p s h k
+use Rattle.model.specs.Sound.{Limits}
 
 module _ (p s len : ℕ) where
   pub format-so : Limits p s → len ≡ size p s → Accepted ≡ judgeFormat p s len

@@ -1,22 +1,23 @@
 -- Every sound image is within its bounds, and every move keeps it there.
 -- Assumes nothing.
 use Prim.Native.Nat.{ℕ, _*_, _-_, _/_, _%_, _^_, _≤_, _<_}
-use mathlib.Core.Path.{_≡_, refl, sym, ap, _∙_, subst}
+use mathlib.Core.Path.{_≡_, refl, sym, subst}
 use mathlib.Core.Bool.{Bool, true, false, cond}
-use mathlib.Core.Logic.{_≢_}
-use native.Mathlib.Nat.{div-lt-iff-lt-mul, lt-of-lt-of-le, mul-le-mul, zero-mul, zero-div}
+use mathlib.Core.Logic.{_≢_, ⊎-elim}
+use native.Mathlib.Nat.{lt-of-lt-of-le, mul-le-mul, zero-mul, zero-div}
 use native.Mathlib.Omega.{arith}
 use lib.Arith.{digits-lt, digits-div}
-use lib.Dec.{eqb}
+use lib.Dec.{eqb, leb}
 use lib.ListN.{length}
-use borrow.Author.Tests.{eqb-true, eqb-false}
-use Rattle.loops.proofs.Tests.{both-true, clash}
+use borrow.Author.Tests.{eqb-false, leb-true}
 use Rattle.kinds.specs.Names.{mostPartitions, mostSlots, radix}
-use Rattle.model.specs.Image.{Image, Key, head, root, flag, state, payload, inlist, field, addr, get, put, placeOf, partOf, refer, release, Holder, a-root, a-field}
+use Rattle.model.specs.Image.{Image, Key, head, root, flag, state, payload, inlist, field, front, addr, get, put, lengthOf, placeOf, partOf, refer, release, Holder, a-root, a-field}
 use Rattle.model.specs.Acts.{mark, markWord}
 use Rattle.model.specs.Outlist.{mostPlaces}
-use Rattle.model.specs.Sound.{SoundAt, NamesUsed, Right}
-use Rattle.model.proofs.Keys.{Fits, In, Sized, same, touches, get-put-apart, sized-put, sized-length, refer-apart, refer-same, sized-refer, release-apart, release-same, sized-release}
+use Rattle.model.specs.Sound.{Limits, SoundAt, NamesUsed, Right}
+use Rattle.model.proofs.Keys.{Fits, In, Has, Sized, same, touches, has, get-put-apart, sized-put, sized-length, refer-apart, refer-same, sized-refer, release-apart, release-same, sized-release}
+use Rattle.model.proofs.Holders.{holder-in, holder-same}
+use Rattle.model.proofs.Places.{parts}
 use Rattle.model.proofs.Counting.{right-put, right-refer, right-release}
 use Rattle.image.specs.Within.{Within}
 
@@ -75,35 +76,20 @@ plain-field (payload i) f j k = refl
 plain-field (inlist i) f j k = absurd f
 plain-field (field i c) f j k = absurd f
 
-pub holder-in : (n : ℕ) (κ : Key) → Holder n κ → In n κ
-holder-in n (root r) (a-root l) = l
-holder-in n (field j k) (a-field l m) = (l, m)
-
-pub holder-fits : (n : ℕ) (κ : Key) → Holder n κ → Fits κ
-holder-fits n (root r) (a-root l) = l
-holder-fits n (field j k) (a-field l m) = m
-
--- of holders, a change of one touches itself alone
-holders : (n : ℕ) (κ μ : Key) → Holder n κ → Holder n μ → touches κ μ ≡ true → κ ≡ μ
-holders n (root r) (root q) (a-root l) (a-root m) e = ap root (eqb-true r q e)
-holders n (root r) (field j k) (a-root l) (a-field m o) e = absurd (clash e refl)
-holders n (field i h) (root r) (a-field l m) (a-root o) e = absurd (clash e refl)
-holders n (field i h) (field j k) (a-field l m) (a-field o q) e =
-    let b = both-true (eqb h k) (eqb i j) e in
-    ap (λ (z : ℕ). field z h) (eqb-true i j (b .1)) ∙ ap (field j) (eqb-true h k (b .0))
+holder-fits : {n : ℕ} {κ : Key} → Holder n κ → Fits κ
+holder-fits (a-root l) = l
+holder-fits (a-field l m) = m
 
 -- a product with S is at most 64 times its other factor
 pub product : (M p s : ℕ) → p ≤ M → s ≤ mostSlots → p * s ≤ M * mostSlots
 product M p s hp hs = mul-le-mul {n₁ = p} {m₁ = s} {n₂ = M} {m₂ = mostSlots} hp hs
 
 -- no image has more places than there can be
-pub places : {P S : ℕ} {x : Image} → Within P S x → P * S ≤ mostPlaces
-places {P} {S} w = product mostPartitions P S (w .small) (w .wide)
+pub most-places : {P S : ℕ} → Limits P S → P * S ≤ mostPlaces
+most-places {P} {S} l = product mostPartitions P S (l .partitions-most) (l .slots-most)
 
--- a place's partition is one of P
-pub part-in : (P S j : ℕ) → 0 < S → j < P * S → partOf S j < P
-unfolding partOf
-part-in P S j s l = div-lt-iff-lt-mul s .1 l
+pub places : {P S : ℕ} {x : Image} → Within P S x → P * S ≤ mostPlaces
+places w = most-places (w .limits)
 
 -- nothing names place 0
 pub word-none : (S : ℕ) → 0 ≡ placeOf S 0
@@ -130,12 +116,9 @@ word-in P S w p s = digits-lt p s
 
 module _ (P S : ℕ) (x : Image) where
   pub sound-within : SoundAt P S x → Within P S x
-  unfolding Sized
   sound-within h =
       record {
-        some-slot = h .some-slot;
-        small = h .partitions-most;
-        wide = h .slots-most;
+        limits = h .limits;
         long = sized-length P S x (h .length-agrees);
         right = h .right;
         refs = λ κ i n. let u : NamesUsed P S x κ = h .references κ i n in word-in P S (get x κ) (u .partition) (u .slot);
@@ -144,44 +127,48 @@ module _ (P S : ℕ) (x : Image) where
   module _ (h : Within P S x) where
     -- any change of words that keeps the length and leaves references that lead to places
     moved : (y : Image) → Sized (P * S) y → Right (P * S) S y → ((μ : Key) → Holder (P * S) μ → Leads (P * S) S (get y μ)) → Within P S y
-    unfolding Sized
-    moved y z c r = record { some-slot = h .some-slot; small = h .small; wide = h .wide; long = z; right = c; refs = r }
-
-    sized : Sized (P * S) x
-    unfolding Sized
-    sized = h .long
+    moved y z c r = record { limits = h .limits; long = z; right = c; refs = r }
 
     kept : (y : Image) (μ : Key) → Holder (P * S) μ → get y μ ≡ get x μ → Leads (P * S) S (get y μ)
     kept y μ i e = subst (Leads (P * S) S) (sym e) (h .refs μ i)
 
     pub within-put : (κ : Key) (v : ℕ) → Plain κ → Within P S (put x κ v)
     within-put κ v f =
-        moved (put x κ v) (sized-put (P * S) x κ v sized) (right-put (P * S) S x κ v (plain-fits κ f) (plain-field κ f) (plain-count κ f) (h .right))
-        (λ μ i. kept (put x κ v) μ i (get-put-apart x κ v μ (plain-fits κ f) (holder-fits (P * S) μ i) (plain-apart (P * S) κ μ f i)))
+        moved (put x κ v) (sized-put (P * S) x κ v (h .long)) (right-put (P * S) S x κ v (plain-fits κ f) (plain-field κ f) (plain-count κ f) (h .right))
+        (λ μ i. kept (put x κ v) μ i (get-put-apart x κ v μ (plain-fits κ f) (holder-fits i) (plain-apart (P * S) κ μ f i)))
+
+    -- a change of the reference at κ: that one leads where the new word does, every other where it led
+    changed : (κ : Key) (w : ℕ) (y : Image) → Holder (P * S) κ → Sized (P * S) y → Right (P * S) S y → get y κ ≡ w
+        → ((μ : Key) → Fits μ → touches κ μ ≡ false → get y μ ≡ get x μ) → Leads (P * S) S w → Within P S y
+    changed κ w y k z c e apart r =
+        moved y z c
+        (λ μ i.
+        ⊎-elim (λ q. subst (λ (ν : Key). Leads (P * S) S (get y ν)) q (subst (Leads (P * S) S) (sym e) r)) (λ q. kept y μ i (apart μ (holder-fits i) q))
+        (holder-same k i))
 
     pub within-refer : (κ : Key) (w : ℕ) → Holder (P * S) κ → Leads (P * S) S w → Within P S (refer S x κ w)
-    within-refer κ w k r = moved (refer S x κ w) (sized-refer (P * S) S x κ w sized) (right-refer (P * S) S x κ w k sized (h .right)) (λ μ i. go μ i (touches κ μ) refl)
-      where
-        go : (μ : Key) → Holder (P * S) μ → (b : Bool) → touches κ μ ≡ b → Leads (P * S) S (get (refer S x κ w) μ)
-        go μ i true e =
-            subst (λ (ν : Key). Leads (P * S) S (get (refer S x κ w) ν)) (holders (P * S) κ μ k i e)
-            (subst (Leads (P * S) S) (sym (refer-same (P * S) S x κ w sized (holder-in (P * S) κ k))) r)
-        go μ i false e = kept (refer S x κ w) μ i (refer-apart S x κ w μ (holder-fits (P * S) κ k) (holder-fits (P * S) μ i) e)
+    within-refer κ w k r =
+        changed κ w (refer S x κ w) k (sized-refer (P * S) S x κ w (h .long)) (right-refer (P * S) S x κ w k (h .long) (h .right))
+        (refer-same (P * S) S x κ w (h .long) (holder-in k)) (λ μ f q. refer-apart S x κ w μ (holder-fits k) f q) r
 
     pub within-release : (κ : Key) → Holder (P * S) κ → Within P S (release S x κ)
-    within-release κ k = moved (release S x κ) (sized-release (P * S) S x κ sized) (right-release (P * S) S x κ k sized (h .right)) (λ μ i. go μ i (touches κ μ) refl)
-      where
-        go : (μ : Key) → Holder (P * S) μ → (b : Bool) → touches κ μ ≡ b → Leads (P * S) S (get (release S x κ) μ)
-        go μ i true e =
-            subst (λ (ν : Key). Leads (P * S) S (get (release S x κ) ν)) (holders (P * S) κ μ k i e)
-            (λ n. absurd (n (release-same (P * S) S x κ sized (holder-in (P * S) κ k))))
-        go μ i false e = kept (release S x κ) μ i (release-apart S x κ μ (holder-fits (P * S) κ k) (holder-fits (P * S) μ i) e)
+    within-release κ k =
+        changed κ 0 (release S x κ) k (sized-release (P * S) S x κ (h .long)) (right-release (P * S) S x κ k (h .long) (h .right))
+        (release-same (P * S) S x κ (h .long) (holder-in k)) (λ μ f q. release-apart S x κ μ (holder-fits k) f q) (λ ne. absurd (ne refl))
+
+-- where the words before the slots are there, so are those of the head
+pub has-head : (x : Image) → leb front (lengthOf x) ≡ true → (h : ℕ) → h < 5 → Has x (head h)
+unfolding Has addr lengthOf
+has-head x e h l = omega (arith, leb-true front (length x) e)
 
 module _ (P S : ℕ) (x : Image) (h : Within P S x) where
-  -- what the code of a mark asks for
-  pub mark-ready : (j : ℕ) → j < P * S → (0 < S) × (partOf S j < mostPartitions) × (addr (state j) < length x)
-  unfolding addr
-  mark-ready j l = (h .some-slot, lt-of-lt-of-le (part-in P S j (h .some-slot) l) (h .small), omega (arith, h .long))
+  -- it has every word of its places
+  pub has-word : (κ : Key) → In (P * S) κ → Has x κ
+  has-word κ i = has (P * S) x (h .long) κ i
+
+  -- a place's partition has a flag
+  pub flag-in : (j : ℕ) → j < P * S → partOf S j < mostPartitions
+  flag-in j l = lt-of-lt-of-le (parts P S (h .limits .some-slot) j l) (h .limits .partitions-most)
 
   pub within-mark : (j : ℕ) → j < P * S → Within P S (mark S x j)
   unfolding mark
@@ -189,7 +176,7 @@ module _ (P S : ℕ) (x : Image) (h : Within P S x) where
     where
       go : (b : Bool) → Within P S (cond b (put (put x (flag (partOf S j)) 0) (state j) 2) x)
       go true =
-          within-put P S (put x (flag (partOf S j)) 0) (within-put P S x h (flag (partOf S j)) 0 (mark-ready j l .1))
+          within-put P S (put x (flag (partOf S j)) 0) (within-put P S x h (flag (partOf S j)) 0 (flag-in j l))
           (state j) 2 tt
       go false = h
 

@@ -1,19 +1,16 @@
 -- What the acts need of an image: its length is that of P partitions of S slots, every reference leads to one of its places, and its counts
 -- are right (so that none is above 4·P·S, and none is 0 where a reference goes); and what a count needs to fall and to rise.
-use Prim.Native.Nat.{ℕ, _+_, _*_, _≤_, _<_}
+use Prim.Native.Nat.{ℕ, _*_, _≤_, _<_}
 use mathlib.Core.Path.{_≡_}
 use mathlib.Core.Bool.{true, cond}
 use mathlib.Core.Logic.{_≢_}
-use lib.ListN.{length}
 use Rattle.kinds.specs.Names.{mostPartitions, mostSlots}
-use Rattle.model.specs.Image.{Image, Key, inlist, front, stride, addr, get, placeOf, abroad, Holder}
-use Rattle.model.specs.Sound.{Right}
+use Rattle.model.specs.Image.{Image, Key, inlist, addr, Has, Sized, get, placeOf, abroad, Holder}
+use Rattle.model.specs.Sound.{Limits, Right}
 
 pub record Within (P S : ℕ) (x : Image) : Type 0 where
-  pub some-slot : 0 < S
-  pub small : P ≤ mostPartitions
-  pub wide : S ≤ mostSlots
-  pub long : length x ≡ front + stride * (P * S)
+  pub limits : Limits P S
+  pub long : Sized (P * S) x
   pub right : Right (P * S) S x
   pub refs : (κ : Key) → Holder (P * S) κ → get x κ ≢ 0 → placeOf S (get x κ) < P * S
 
@@ -25,7 +22,7 @@ countAt S j w = cond (abroad S j w) (addr (inlist (placeOf S w))) 0
 pub record Changes (Q : ℕ → Type 0) (S j w : ℕ) (x : Image) : Type 0 where
   pub some-slot : 0 < S
   pub wide : S ≤ mostSlots
-  pub inside : abroad S j w ≡ true → addr (inlist (placeOf S w)) < length x
+  pub inside : abroad S j w ≡ true → Has x (inlist (placeOf S w))
   pub fits : abroad S j w ≡ true → Q (get x (inlist (placeOf S w)))
 
 -- it can fall by one; it can rise by one

@@ -1,23 +1,26 @@
-// The image as code: places, marks, the two ways in which a reference changes and what they do to counts, and format, over lent words. What the
-// model defines is proved equal to the definition of its name. No function asks for a sound image; what keeps every reference in range and
-// every count right is `Within` (specs/Within.antt), which follows from soundness and is kept by every move (proofs/Within.antt).
+// The image as code: its words by their keys, places, marks, the two ways in which a reference changes and what they do to counts, and format,
+// over lent words. Nothing above knows where a word stands. What the model defines is proved equal to the definition of its name. No function
+// asks for a sound image; what keeps every reference in range and every count right is `Within` (specs/Within.antt), which follows from
+// soundness and is kept by every move (proofs/Within.antt).
 ghost use mathlib.Core.Path.{_≡_};
 ghost use mathlib.Core.Logic.{_≢_};
 ghost use Prim.Native.Nat.{_*_, _^_, _<_, _≤_};
 ghost use lib.ListN.{length, replicate};
 ghost use Rattle.kinds.specs.Names.{mostSlots};
-ghost use Rattle.model.specs.Image.{root, field, addr, lengthOf, size, blank, place, placeOf, partOf, lose, gain, refer, release};
-ghost use Rattle.model.specs.Judge.{judgeFormat};
+ghost use lib.Dec.{leb};
+ghost use Rattle.model.specs.Image.{head, root, flag, state, payload, inlist, field, front, Has, get, put, lengthOf, size, blank, place, placeOf, partOf, lose, gain, refer, release};
+ghost use Rattle.model.specs.Judge.{inLimits, judgeFormat};
 ghost use Rattle.model.specs.Acts.{markWord};
+ghost use Rattle.model.specs.Sound.{Limits};
 ghost use Rattle.image.specs.Within.{Within, countAt, Loses, Gains};
 
 // The words before the slots, and the words of a slot.
-pub const FRONT: usize = 37;
+const FRONT: usize = 37;
 
-pub const STRIDE: usize = 7;
+const STRIDE: usize = 7;
 
 // The count of a slot is its last word.
-pub const INLIST: usize = 6;
+const INLIST: usize = 6;
 
 // The words of the largest image.
 pub const WORDS: usize = FRONT + STRIDE * (kinds::Partition::LIMIT * kinds::Slot::LIMIT) as usize;
@@ -25,10 +28,15 @@ pub const WORDS: usize = FRONT + STRIDE * (kinds::Partition::LIMIT * kinds::Slot
 // The holders that are no fields.
 pub const ANCHORS: usize = 16;
 
-// Where the roots and the flags begin, and the words of the head.
-pub const ROOT: usize = 5;
+// Where the roots and the flags begin.
+const ROOT: usize = 5;
 
-pub const FLAG: usize = 21;
+const FLAG: usize = 21;
+
+// The words of the head.
+pub const PARTITIONS: usize = 0;
+
+pub const SLOTS: usize = 1;
 
 pub const PHASE: usize = 2;
 
@@ -41,6 +49,112 @@ pub fn wide(x: u32) -> usize
     ensures { λ r. ⌜ r ≡ x ⌝ }
 {
     x as usize
+}
+
+// A word of the head.
+pub fn head_at(img: &[u32], h: usize) -> u32
+    requires { ⌜ Has (now img) (head h) ⌝ }
+    ensures { λ w. ⌜ w ≡ get (now (img .entry)) (head h) ⌝ }
+{
+    img[h]
+}
+
+// A root.
+pub fn root_at(img: &[u32], r: usize) -> u32
+    requires { ⌜ Has (now img) (root r) ⌝ }
+    ensures { λ w. ⌜ w ≡ get (now (img .entry)) (root r) ⌝ }
+{
+    img[ROOT + r]
+}
+
+// A partition's flag.
+pub fn flag_at(img: &[u32], p: usize) -> u32
+    requires { ⌜ Has (now img) (flag p) ⌝ }
+    ensures { λ w. ⌜ w ≡ get (now (img .entry)) (flag p) ⌝ }
+{
+    img[FLAG + p]
+}
+
+// The state of place j.
+pub fn state_at(img: &[u32], j: usize) -> u32
+    requires { ⌜ Has (now img) (state j) ⌝ }
+    ensures { λ w. ⌜ w ≡ get (now (img .entry)) (state j) ⌝ }
+{
+    img[FRONT + STRIDE * j]
+}
+
+// Its payload.
+pub fn payload_at(img: &[u32], j: usize) -> u32
+    requires { ⌜ Has (now img) (payload j) ⌝ }
+    ensures { λ w. ⌜ w ≡ get (now (img .entry)) (payload j) ⌝ }
+{
+    img[FRONT + STRIDE * j + 1]
+}
+
+// Its field k.
+pub fn field_at(img: &[u32], j: usize, k: usize) -> u32
+    requires { ⌜ Has (now img) (field j k) ⌝ }
+    ensures { λ w. ⌜ w ≡ get (now (img .entry)) (field j k) ⌝ }
+{
+    img[FRONT + STRIDE * j + 2 + k]
+}
+
+// Its count of foreign references.
+pub fn inlist_at(img: &[u32], j: usize) -> u32
+    requires { ⌜ Has (now img) (inlist j) ⌝ }
+    ensures { λ w. ⌜ w ≡ get (now (img .entry)) (inlist j) ⌝ }
+{
+    img[FRONT + STRIDE * j + INLIST]
+}
+
+// A word of the head is written.
+pub fn put_head(img: &mut [u32], h: usize, v: u32)
+    requires { ⌜ Has (now img) (head h) ⌝ }
+    ensures { λ _. ⌜ now (img .exit) ≡ put (now (img .entry)) (head h) v ⌝ }
+{
+    img[h] = v;
+}
+
+// A partition's flag.
+pub fn put_flag(img: &mut [u32], p: usize, v: u32)
+    requires { ⌜ Has (now img) (flag p) ⌝ }
+    ensures { λ _. ⌜ now (img .exit) ≡ put (now (img .entry)) (flag p) v ⌝ }
+{
+    img[FLAG + p] = v;
+}
+
+// The state of place j.
+pub fn put_state(img: &mut [u32], j: usize, v: u32)
+    requires { ⌜ Has (now img) (state j) ⌝ }
+    ensures { λ _. ⌜ now (img .exit) ≡ put (now (img .entry)) (state j) v ⌝ }
+{
+    img[FRONT + STRIDE * j] = v;
+}
+
+// Its payload.
+pub fn put_payload(img: &mut [u32], j: usize, v: u32)
+    requires { ⌜ Has (now img) (payload j) ⌝ }
+    ensures { λ _. ⌜ now (img .exit) ≡ put (now (img .entry)) (payload j) v ⌝ }
+{
+    img[FRONT + STRIDE * j + 1] = v;
+}
+
+// Its field k: only where a reference changes, with the counts.
+fn put_field(img: &mut [u32], j: usize, k: usize, v: u32)
+    requires { ⌜ Has (now img) (field j k) ⌝ }
+    ensures { λ _. ⌜ now (img .exit) ≡ put (now (img .entry)) (field j k) v ⌝ }
+{
+    img[FRONT + STRIDE * j + 2 + k] = v;
+}
+
+// Whether the words before the slots are all there.
+pub fn has_front(img: &[u32]) -> bool
+    ensures { λ r. ⌜ r ≡ leb front (lengthOf (now (img .entry))) ⌝ }
+{
+    if img.len() < FRONT {
+        return false;
+    }
+    true
 }
 
 // The place of a name that is known to have one, whatever its numbers are.
@@ -93,18 +207,17 @@ pub fn mark_word(img: &mut [u32], p: usize, s: usize, w: u32)
         return;
     }
     let j = place_of(w, s);
-    let at = FRONT + STRIDE * j;
-    if img[at] != 1 {
+    if state_at(&*img, j) != 1 {
         return;
     }
     let q = part_of(w, s);
-    img[FLAG + q] = 0;
-    img[at] = 2;
+    put_flag(&mut *img, q, 0);
+    put_state(img, j, 2);
 }
 
 // A root takes a reference.
 pub fn refer_root(img: &mut [u32], s: usize, r: usize, w: u32)
-    requires { ⌜ addr (root r) < length (now img) ⌝ }
+    requires { ⌜ Has (now img) (root r) ⌝ }
     ensures { λ _. ⌜ now (img .exit) ≡ refer s (now (img .entry)) (root r) w ⌝ }
 {
     img[ROOT + r] = w;
@@ -161,11 +274,10 @@ pub fn refer_field(img: &mut [u32], p: usize, s: usize, j: usize, k: usize, w: u
     requires { ⌜ (j < p * s) × (k < 4) × (w ≢ 0 → placeOf s w < p * s) ⌝ }
     ensures { λ _. ⌜ now (img .exit) ≡ refer s (now (img .entry)) (field j k) w ⌝ }
 {
-    let at = FRONT + STRIDE * j + 2 + k;
-    let old = img[at];
+    let old = field_at(&*img, j, k);
     lose(&mut *img, s, j, old);
     gain(&mut *img, s, j, w);
-    img[at] = w;
+    put_field(img, j, k, w);
 }
 
 // A freed object's reference goes, and the count of what it named falls.
@@ -174,10 +286,9 @@ pub fn release_field(img: &mut [u32], p: usize, s: usize, j: usize, k: usize)
     requires { ⌜ (j < p * s) × (k < 4) ⌝ }
     ensures { λ _. ⌜ now (img .exit) ≡ release s (now (img .entry)) (field j k) ⌝ }
 {
-    let at = FRONT + STRIDE * j + 2 + k;
-    let old = img[at];
+    let old = field_at(&*img, j, k);
     lose(&mut *img, s, j, old);
-    img[at] = 0;
+    put_field(img, j, k, 0);
 }
 
 // As many zeros as there can be places.
@@ -198,23 +309,41 @@ pub fn clear(img: &mut [u32])
     }
 }
 
+// P is 1 to 16, S is 1 to 64.
+pub fn in_limits(p: u32, s: u32) -> bool
+    ensures { λ r. ⌜ r ≡ inLimits p s ⌝ }
+{
+    if p == 0 {
+        return false;
+    }
+    if p > kinds::Partition::LIMIT {
+        return false;
+    }
+    if s == 0 {
+        return false;
+    }
+    if s > kinds::Slot::LIMIT {
+        return false;
+    }
+    true
+}
+
+// The words of an image of P partitions of S slots.
+pub fn size(p: u32, s: u32) -> usize
+    requires { ⌜ Limits p s ⌝ }
+    ensures { λ r. ⌜ r ≡ size p s ⌝ }
+{
+    FRONT + STRIDE * ((p * s) as usize)
+}
+
 // Format: 2 unless P and S are in range and agree with the length.
 pub fn judge_format(len: usize, p: u32, s: u32) -> kinds::Verdict
     ensures { λ r. ⌜ r ≡ judgeFormat p s len ⌝ }
 {
-    if p == 0 {
+    if !in_limits(p, s) {
         return kinds::Verdict::refuse(kinds::Refusal::SIZE, 0);
     }
-    if p > kinds::Partition::LIMIT {
-        return kinds::Verdict::refuse(kinds::Refusal::SIZE, 0);
-    }
-    if s == 0 {
-        return kinds::Verdict::refuse(kinds::Refusal::SIZE, 0);
-    }
-    if s > kinds::Slot::LIMIT {
-        return kinds::Verdict::refuse(kinds::Refusal::SIZE, 0);
-    }
-    if len != FRONT + STRIDE * ((p * s) as usize) {
+    if len != size(p, s) {
         return kinds::Verdict::refuse(kinds::Refusal::SIZE, 0);
     }
     kinds::Verdict::Accepted

@@ -1,17 +1,14 @@
 -- Laws of the loop that reads: it stays within the lent bytes, and each turn leaves less to do.
 use Prim.Native.Nat.{ℕ, suc, _-_, _≤_, _<_}
 use native.Mathlib.Omega.{arith}
-use mathlib.Core.Path.{_≡_, sym}
+use mathlib.Core.Path.{_≡_}
 use mathlib.Core.List.{List}
 use lib.ListN.{length}
-use lib.Seq.{length-take-le}
 use Rattle.io.specs.Counts.{Counts}
+use Rattle.io.proofs.Counting.{counts}
 use Rattle.input.specs.declared.Got.{Got}
 use Rattle.input.specs.declared.Got.the-variants.{More, Ended, Failed}
 use Rattle.input.specs.Input.{outcome, Stands, Filled}
-
-counts : (n : ℕ) (bytes : List ℕ) → n ≤ length bytes → Counts n bytes
-counts n bytes h = (h, sym (length-take-le n bytes h))
 
 stands-filled : (done : ℕ) (bytes : List ℕ) (got : Got) → done ≤ length bytes → Stands done (length bytes) got → Filled (outcome got) bytes
 unfolding outcome

@@ -23,7 +23,7 @@ outcome (Ended n) = Whole n
 outcome Failed = NoInput
 
 -- one answer more; after the end or a failed read it makes no difference
-abbrev pub nextOf : Got → ℤ → Got
+abbrev nextOf : Got → ℤ → Got
 nextOf (More n) answer = afterOf n answer
 nextOf (Ended n) answer = Ended n
 nextOf Failed answer = Failed

@@ -2,6 +2,7 @@
 use Prim.Native.Nat.{ℕ, _+_, _-_, _*_, _/_, _%_, _<_}
 use mathlib.Core.Bool.{cond}
 use lib.Dec.{eqb}
+use Rattle.kinds.specs.declared.Partition.{Partition}
 use Rattle.kinds.specs.declared.Name.{Name}
 use Rattle.kinds.specs.declared.Target.{Target}
 use Rattle.kinds.specs.declared.Target.the-variants.{Nothing, Object}
@@ -26,9 +27,12 @@ mostOperations = 32
 abbrev pub radix : ℕ
 radix = 64
 
--- slot s of partition p
+-- partition p, and slot s of it
+abbrev pub partition : ℕ → Partition
+partition p = record { 0 = p }
+
 abbrev pub named : ℕ → ℕ → Name
-named p s = record { partition = record { 0 = p }; slot = record { 0 = s } }
+named p s = record { partition = partition p; slot = record { 0 = s } }
 
 -- the word of a target at multiplier M
 abbrev pub wordAt : ℕ → Target → ℕ

@@ -1,8 +1,8 @@
-// The kinds of things that the catalogue speaks of, with their limits: partitions, slots, names of objects, targets of references,
-// fields, records, outlists, operations, refusals; and names as words. That a word and its target invert each other and that words are in the
-// order of names is proved once, for any multiplier above the largest slot number, in proofs/Names.antt.
+// The kinds of things that the catalogue speaks of, with their limits: partitions, slots, names of objects, targets of references, fields,
+// records, outlists, operations, single-line acts, refusals; and names as words. That a word and its target invert each other and that words are
+// in the order of names is proved once, for any multiplier above the largest slot number, in proofs/Names.antt.
 ghost use mathlib.Core.Path.{_≡_};
-ghost use Rattle.kinds.specs.Names.{wordOf, targetOf, Named};
+ghost use Rattle.kinds.specs.Names.{named, wordOf, targetOf, Named};
 ghost use Rattle.kinds.specs.Answers.{blankRecord, noNames, refuse};
 
 // A partition's number.
@@ -23,6 +23,16 @@ impl Slot {
 pub struct Name {
     pub partition: Partition,
     pub slot: Slot,
+}
+
+// Slot s of partition p.
+pub fn named(p: u32, s: u32) -> Name
+    ensures { λ n. ⌜ n ≡ named p s ⌝ }
+{
+    Name {
+        partition: Partition(p),
+        slot: Slot(s),
+    }
 }
 
 // What a field or a root holds: nothing, or an object.
@@ -78,6 +88,14 @@ pub enum Operation {
 impl Operation {
     // The most operations of one commit.
     pub const LIMIT: usize = 32;
+}
+
+// An act whose record is a single line.
+pub enum Single {
+    Open,
+    Trace(Partition),
+    Close,
+    Local(Partition),
 }
 
 // Why a call is refused: the paper's number, and its extra answer.

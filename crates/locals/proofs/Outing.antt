@@ -5,57 +5,68 @@ use mathlib.Core.Path.{_≡_, sym, _∙_}
 use mathlib.Core.Bool.{false}
 use mathlib.Core.Logic.{_≢_}
 use native.Mathlib.Omega.{arith}
-use lib.ListN.{length, getD, set, length-set}
+use lib.ListN.{length, set, length-set}
 use borrow.Author.Tests.{eq-eqb, ne-eqb}
 use Rattle.loops.specs.Loop.{tally}
-use Rattle.model.specs.Image.{Image, field, front, stride, addr, get, placeOf, partOf, abroad, a-field}
+use Rattle.model.specs.Image.{Image, state, field, get, placeOf, partOf, abroad, a-field}
 use Rattle.model.specs.Questions.{Bits, hasBit, addBit}
 use Rattle.model.specs.Outlist.{mostPlaces, goesOut, goesTo, outOne, outBits, listNames, outlist}
 use Rattle.model.proofs.Places.{part-of}
 use Rattle.model.proofs.Outlists.{out-tally}
 use Rattle.image.specs.Within.{Within}
-use Rattle.locals.specs.Outlist.{Gathers}
+use Rattle.locals.specs.Slots.{SlotOf}
+use Rattle.locals.specs.Outlist.{FieldOf, Gathers}
 use Rattle.image.proofs.Within.{places}
 use Rattle.locals.proofs.Owning.{slot-small}
 
-module _ {P S : ℕ} {x : Image} (w : Within P S x) (p : ℕ) (inp : p < P) (f : ℕ) (lf : f < 4 * S) (b : Bits) (wide : length b ≡ mostPlaces) where
-  pub out-in : p * S + f / 4 < P * S
-  out-in = slot-small w p inp (f / 4) (omega arith)
-
+-- a field that names nothing outside p: no bit changes
+module _ {P S : ℕ} {x : Image} {p f : ℕ} {b : Bits} (h : FieldOf P S x p f b) where
   stays : goesOut S p x f ≡ false → (b ≡ outOne S p x b f) × (length b ≡ mostPlaces)
-  stays e = (rw e, wide)
+  stays e = (rw e, h .wide)
 
-  pub out-free : getD x (front + stride * (p * S + f / 4)) 0 ≡ 0 → (b ≡ outOne S p x b f) × (length b ≡ mostPlaces)
-  unfolding goesOut get addr
+  pub out-free : get x (state (p * S + f / 4)) ≡ 0 → (b ≡ outOne S p x b f) × (length b ≡ mostPlaces)
+  unfolding goesOut
   out-free e = stays (rw e)
 
-  module _ (some : getD x (front + stride * (p * S + f / 4)) 0 ≢ 0) where
-    pub out-nothing : getD x (front + stride * (p * S + f / 4) + 2 + f % 4) 0 ≡ 0 → (b ≡ outOne S p x b f) × (length b ≡ mostPlaces)
-    unfolding goesOut abroad get addr
-    out-nothing e = stays (rw (ne-eqb _ _ some, e))
+  pub out-nothing : get x (state (p * S + f / 4)) ≢ 0 → get x (field (p * S + f / 4) (f % 4)) ≡ 0 → (b ≡ outOne S p x b f) × (length b ≡ mostPlaces)
+  unfolding goesOut abroad
+  out-nothing some e = stays (rw (ne-eqb _ _ some, e))
 
-    module _ (ref : getD x (front + stride * (p * S + f / 4) + 2 + f % 4) 0 ≢ 0) (i : ℕ) (e : i ≡ placeOf S (getD x (front + stride * (p * S + f / 4) + 2 + f % 4) 0)) where
-      mine : partOf S (p * S + f / 4) ≡ p
-      mine = part-of P S (w .some-slot) p (f / 4) (omega arith)
+-- the field of an object in use has the word w, which names place i of partition q
+pub record Naming (P S : ℕ) (x : Image) (p f : ℕ) (b : Bits) (w i q : ℕ) : Type 0 where
+  pub holder : FieldOf P S x p f b
+  pub some : get x (state (p * S + f / 4)) ≢ 0
+  pub read : w ≡ get x (field (p * S + f / 4) (f % 4))
+  pub refers : w ≢ 0
+  pub named : i ≡ placeOf S w
+  pub part : q ≡ partOf S (placeOf S w)
 
-      pub out-place : i < mostPlaces
-      unfolding get addr
-      out-place = let l : i < P * S = rw e (w .refs (field (p * S + f / 4) (f % 4)) (a-field out-in (omega arith)) ref) in omega (arith, places w)
+module _ {P S : ℕ} {x : Image} {p f : ℕ} {b : Bits} {w i q : ℕ} (n : Naming P S x p f b w i q) where
+  h : SlotOf P S x p (f / 4)
+  h = n .holder .place
 
-      pub out-own : (q : ℕ) → q ≡ partOf S (placeOf S (getD x (front + stride * (p * S + f / 4) + 2 + f % 4) 0)) → q ≡ p → (b ≡ outOne S p x b f) × (length b ≡ mostPlaces)
-      unfolding goesOut abroad get addr
-      out-own q a z = stays (rw (ne-eqb _ _ some, ne-eqb _ _ ref, mine, ← a, eq-eqb p q (sym z)))
+  mine : partOf S (p * S + f / 4) ≡ p
+  mine = part-of P S (h .within .limits .some-slot) p (f / 4) (h .slot)
 
-      pub out-far : (q : ℕ) → q ≡ partOf S (placeOf S (getD x (front + stride * (p * S + f / 4) + 2 + f % 4) 0)) → q ≢ p → (set b i 1 ≡ outOne S p x b f) × (length (set b i 1) ≡ mostPlaces)
-      unfolding goesOut goesTo abroad addBit get addr
-      out-far q a ne = (rw (ne-eqb _ _ some, ne-eqb _ _ ref, mine, ← a, ← e, ne-eqb p q (λ z. ne (sym z))), length-set b i 1 ∙ wide)
+  pub out-place : i < mostPlaces
+  out-place =
+      let l : i < P * S = rw (n .named, n .read) (h .within .refs (field (p * S + f / 4) (f % 4)) (a-field (slot-small h) (omega arith)) (rw (n .read) at (n .refers))) in
+      omega (arith, places (h .within))
+
+  pub out-own : q ≡ p → (b ≡ outOne S p x b f) × (length b ≡ mostPlaces)
+  unfolding goesOut abroad
+  out-own z = stays (n .holder) (rw (ne-eqb _ _ (n .some), ← (n .read), ne-eqb _ _ (n .refers), mine, ← (n .part), eq-eqb p q (sym z)))
+
+  pub out-far : q ≢ p → (set b i 1 ≡ outOne S p x b f) × (length (set b i 1) ≡ mostPlaces)
+  unfolding goesOut goesTo abroad addBit
+  out-far ne = (rw (ne-eqb _ _ (n .some), ← (n .read), ne-eqb _ _ (n .refers), mine, ← (n .part), ← (n .named), ne-eqb p q (λ z. ne (sym z))), length-set b i 1 ∙ n .holder .wide)
 
 -- what the list of names asks of the marked places
 pub gathers : {P S : ℕ} {x : Image} → Within P S x → (p : ℕ) (bits : Bits) → bits ≡ outBits S p x → Gathers P S bits
 gathers {P} {S} {x} w p bits e =
     let t = out-tally S p x in
-    let few : tally mostPlaces (hasBit (outBits S p x)) ≤ 256 = omega (arith, t .1, w .wide) in
-    record { some-slot = w .some-slot; slots-most = w .wide; fit = places w; wide = rw e (t .0); few = rw e few }
+    let few : tally mostPlaces (hasBit (outBits S p x)) ≤ 256 = omega (arith, t .1, w .limits .slots-most) in
+    record { limits = w .limits; fit = places w; wide = rw e (t .0); few = rw e few }
 
 pub out-listed : (P S p : ℕ) (x : Image) (bits : Bits) → bits ≡ outBits S p x → listNames (P * S) S bits ≡ outlist P S p x
 unfolding outlist

@@ -3,12 +3,23 @@
 use Prim.Native.Nat.{ℕ, _+_, _*_, _-_, _≤_, _<_}
 use native.Mathlib.Omega.{arith}
 use Rattle.model.specs.Image.{Image}
+use Rattle.model.specs.Outlist.{mostPlaces}
 use Rattle.model.proofs.Places.{slot-in}
 use Rattle.image.specs.Within.{Within}
+use Rattle.image.proofs.Within.{places}
+use Rattle.locals.specs.Slots.{SlotOf}
 
-pub slot-small : {P S : ℕ} {x : Image} → Within P S x → (p : ℕ) → p < P → (k : ℕ) → k < S → p * S + k < P * S
-slot-small {P} {S} w p inp k l = slot-in P S (w .some-slot) p k inp l
+module _ {P S : ℕ} {x : Image} {p k : ℕ} (h : SlotOf P S x p k) where
+  pub slot-small : p * S + k < P * S
+  slot-small = slot-in P S (h .within .limits .some-slot) p k (h .part) (h .slot)
+
+  pub slot-most : p * S + k < mostPlaces
+  slot-most = omega (arith, slot-small, places (h .within))
 
 -- all of them
 pub row-small : {P S : ℕ} {x : Image} → Within P S x → (p : ℕ) → p < P → p * S + S ≤ P * S
-row-small {P} {S} w p inp = omega (arith, slot-small w p inp (S - 1) (omega (arith, w .some-slot)), w .some-slot)
+row-small {P} {S} w p inp =
+    omega (arith, slot-in P S (w .limits .some-slot) p (S - 1) inp (omega (arith, w .limits .some-slot)), w .limits .some-slot)
+
+pub row-most : {P S : ℕ} {x : Image} → Within P S x → (p : ℕ) → p < P → p * S + S ≤ mostPlaces
+row-most w p inp = omega (arith, row-small w p inp, places w)

@@ -4,16 +4,17 @@
 // `outlist` answers the names that t's objects hold of other partitions' objects (the model's `outlist`): it marks their places and lists
 // the marked ones in order.
 use kinds::Outlist;
+use kinds::Partition;
 ghost use mathlib.Core.Path.{_≡_};
-ghost use Prim.Native.Nat.{_+_, _*_, _≤_, _<_};
+ghost use Prim.Native.Nat.{_+_, _*_, _<_};
 ghost use lib.ListN.{length, replicate};
 ghost use Rattle.model.specs.Acts.{localUp, localFreed};
 ghost use Rattle.model.specs.Outlist.{mostPlaces, outOne, outBits, nameOne, listNames, outlist};
 ghost use Rattle.image.specs.Within.{Within};
 ghost use Rattle.todo.specs.Notes.{Noted, More};
 ghost use Rattle.loops.specs.Loop.{bit, each, tally};
-ghost use Rattle.locals.specs.Outlist.{nameState, Placed, Gathers};
-ghost use Rattle.locals.specs.Slots.{namedOne, Kept, lostAt, settleOf};
+ghost use Rattle.locals.specs.Outlist.{FieldOf, nameState, Placed, Gathers};
+ghost use Rattle.locals.specs.Slots.{SlotOf, namedOne, Kept, lostAt, settleOf};
 
 // The object in slot k of partition t is noted, if foreign fields name it.
 fn note_named(
@@ -26,14 +27,13 @@ fn note_named(
     list: &mut [u32; 1024],
     m: usize,
 ) -> usize
-    requires { ⌜ Within p s (now img) ⌝ }
-    requires { ⌜ (t < p) × (k < s) ⌝ }
+    requires { ⌜ SlotOf p s (now img) t k ⌝ }
     requires { ⌜ Noted (t * s) s (now marks) (now list) m ⌝ }
     ensures { λ r. ⌜ (now (marks .exit) ≡ namedOne s t (now (img .entry)) (now (marks .entry)) k) × More (t * s) s (now (list .entry)) m (now (marks .exit)) (now (list .exit)) r ⌝ }
 {
     let lo = t * s;
     let j = lo + k;
-    if img[image::FRONT + image::STRIDE * j + image::INLIST] == 0 {
+    if image::inlist_at(img, j) == 0 {
         return m;
     }
     todo::enter(lo, s, j, &mut *marks, &mut *list, m)
@@ -71,32 +71,21 @@ fn keep(img: &[u32], p: usize, s: usize, t: usize, marks: &mut [u32; 1024])
 {
     let lo = t * s;
     let mut list = image::zeros();
-    let named = todo::note_row(
-        img,
-        s,
-        lo,
-        s,
-        image::ROOT,
-        image::ANCHORS,
-        &mut *marks,
-        &mut list,
-        0,
-    );
+    let named = todo::note_roots(img, p, s, lo, s, &mut *marks, &mut list, 0);
     let m = note_counted(img, p, s, t, &mut *marks, &mut list, named);
     todo::spread(img, p, s, lo, s, &mut *marks, &mut list, m);
 }
 
 // 1 where the object in slot k of partition t is in use and not noted, else 0.
 fn lost_at(img: &[u32], p: usize, s: usize, t: usize, marks: &[u32; 1024], k: usize) -> usize
-    requires { ⌜ Within p s (now img) ⌝ }
-    requires { ⌜ (t < p) × (k < s) ⌝ }
+    requires { ⌜ SlotOf p s (now img) t k ⌝ }
     ensures { λ r. ⌜ r ≡ bit (lostAt s t (now (img .entry)) (now (marks .entry)) k) ⌝ }
 {
     let j = t * s + k;
     if marks[j] == 1 {
         return 0;
     }
-    if img[image::FRONT + image::STRIDE * j] == 0 {
+    if image::state_at(img, j) == 0 {
         return 0;
     }
     1
@@ -122,7 +111,7 @@ fn lost(img: &[u32], p: usize, s: usize, t: usize, marks: &[u32; 1024]) -> usize
 fn settle(img: &mut [u32], p: usize, s: usize, marks: &[u32; 1024], j: usize)
     requires { ⌜ Within p s (now img) ⌝ }
     requires { ⌜ j < p * s ⌝ }
-    ensures { λ _. ⌜ now (img .exit) ≡ settleOf s (now (marks .entry)) (now (img .entry)) j ⌝ }
+    ensures { λ _. ⌜ (now (img .exit) ≡ settleOf s (now (marks .entry)) (now (img .entry)) j) × Within p s (now (img .exit)) ⌝ }
 {
     if marks[j] == 1 {
         return;
@@ -144,29 +133,29 @@ fn free(img: &mut [u32], p: usize, s: usize, t: usize, marks: &[u32; 1024])
 }
 
 // The act local: partition t on its own; the number freed.
-pub fn local(img: &mut [u32], p: usize, s: usize, t: usize) -> usize
+pub fn local(img: &mut [u32], p: usize, s: usize, t: Partition) -> usize
     requires { ⌜ Within p s (now img) ⌝ }
-    requires { ⌜ t < p ⌝ }
-    ensures { λ r. ⌜ (now (img .exit) ≡ localUp p s t (now (img .entry))) × (r ≡ localFreed p s t (now (img .entry))) ⌝ }
+    requires { ⌜ t .0 < p ⌝ }
+    ensures { λ r. ⌜ (now (img .exit) ≡ localUp p s (t .0) (now (img .entry))) × (r ≡ localFreed p s (t .0) (now (img .entry))) ⌝ }
 {
+    let q = t.0 as usize;
     let mut marks = image::zeros();
-    keep(img, p, s, t, &mut marks);
-    let n = lost(img, p, s, t, &marks);
-    free(img, p, s, t, &marks);
+    keep(img, p, s, q, &mut marks);
+    let n = lost(img, p, s, q, &marks);
+    free(img, p, s, q, &marks);
     n
 }
 
 // What field f of partition t's fields names outside t is marked, if it is an object's.
 fn mark_out(img: &[u32], p: usize, s: usize, t: usize, f: usize, bits: &mut [u32; 1024])
-    requires { ⌜ Within p s (now img) ⌝ }
-    requires { ⌜ (t < p) × (f < 4 * s) × (length (now bits) ≡ mostPlaces) ⌝ }
+    requires { ⌜ FieldOf p s (now img) t f (now bits) ⌝ }
     ensures { λ _. ⌜ (now (bits .exit) ≡ outOne s t (now (img .entry)) (now (bits .entry)) f) × (length (now (bits .exit)) ≡ mostPlaces) ⌝ }
 {
     let j = t * s + f / 4;
-    if img[image::FRONT + image::STRIDE * j] == 0 {
+    if image::state_at(img, j) == 0 {
         return;
     }
-    let w = img[image::FRONT + image::STRIDE * j + 2 + f % 4];
+    let w = image::field_at(img, j, f % 4);
     if w == 0 {
         return;
     }
@@ -231,12 +220,13 @@ fn gather(p: usize, s: usize, bits: &[u32; 1024]) -> Outlist
 }
 
 // The outlist of partition t.
-pub fn outlist(img: &[u32], p: usize, s: usize, t: usize) -> Outlist
+pub fn outlist(img: &[u32], p: usize, s: usize, t: Partition) -> Outlist
     requires { ⌜ Within p s (now img) ⌝ }
-    requires { ⌜ t < p ⌝ }
-    ensures { λ r. ⌜ r ≡ outlist p s t (now (img .entry)) ⌝ }
+    requires { ⌜ t .0 < p ⌝ }
+    ensures { λ r. ⌜ r ≡ outlist p s (t .0) (now (img .entry)) ⌝ }
 {
+    let q = t.0 as usize;
     let mut bits = image::zeros();
-    mark_outs(img, p, s, t, &mut bits);
+    mark_outs(img, p, s, q, &mut bits);
     gather(p, s, &bits)
 }

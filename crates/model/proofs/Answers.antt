@@ -1,39 +1,31 @@
 -- What acts answer, as rows that compute; and the shortcuts that the paper forbids, each with an example that it would break. Two partitions of four slots.
 -- Assumes nothing.
 use Prim.Native.Nat.{ℕ, _+_}
-use mathlib.Core.Path.{_≡_, refl}
+use mathlib.Core.Path.{refl}
 use mathlib.Core.List.{List, [], _∷_, _++_}
-use Rattle.loops.specs.Loop.{each, again, tally, every, first}
-use Rattle.kinds.specs.Names.{wordOf}
+use Rattle.loops.specs.Cases.{case, Agree}
+use Rattle.kinds.specs.Names.{partition}
 use Rattle.kinds.specs.Operations.{new, set-to, val, root-to, unroot, three}
+use Rattle.kinds.specs.declared.Single.the-variants.{Open, Trace, Close, Local}
 use Rattle.kinds.specs.declared.Verdict.{Verdict}
 use Rattle.kinds.specs.declared.Verdict.the-variants.{Accepted, Refused}
-use Rattle.model.specs.Image.{Image, count, allowance, inlist, addr, get, put, lengthOf, blank, placeOf, partOf, abroad, lose, gain, recount, refer, release}
-use Rattle.model.specs.Spread.{follow, pass, spread}
-use Rattle.model.specs.Acts.{Act, commit, opening, closing, trace, local, localStart, localBits, freeBut, localUp, localFreed, mark, markWord, store, born, perform, performAll, unmarked, notClean, unclean, markRoots, allow, openUp, inside, outside, finish, traceOne, clear, settle, shut, closeUp, apply}
-use Rattle.model.specs.Judge.{check, andThen, judgeOp, judgeOps, rooted, led, lowest, judge}
+use Rattle.model.proofs.Computing.{imaging, looping, acting, judging}
+use Rattle.model.specs.Image.{Image, count, allowance, inlist, get, blank}
+use Rattle.model.specs.Acts.{Act, commit, single, localUp, localFreed, unmarked, apply}
+use Rattle.model.specs.Judge.{judge}
 use Rattle.model.specs.History.{unrooted}
-use Rattle.model.specs.Questions.{hasBit, addBit, collect}
 
 -- what a row reads off: numbers of the heap; or of an act its refusal's number and extra answer, or else the allowance, the count and the number of unmarked
 -- objects, which a close frees; or of a local collection the number freed, the count of the object at place 6, and the objects left
-pub data Row : Type 0 where
-  number : ℕ → Row
-  refused : ℕ → ℕ → Row
-  accepted : ℕ → ℕ → ℕ → Row
-  collected : ℕ → ℕ → ℕ → Row
+pub data Shown : Type 0 where
+  number : ℕ → Shown
+  refused : ℕ → ℕ → Shown
+  accepted : ℕ → ℕ → ℕ → Shown
+  collected : ℕ → ℕ → ℕ → Shown
 
--- what is read off, and what it must be
-pub data Case : Type 0 where
-  case : Row → Row → Case
-
-abbrev pub Agree : List Case → Type 0
-Agree [] = Unit {0}
-Agree (case is must ∷ rest) = (is ≡ must) × Agree rest
-
-abbrev pub row : Verdict → Image → Row
-row Accepted img = accepted (get img allowance) (get img count) (unmarked 8 img)
-row (Refused r) img = refused (r .number) (r .extra)
+abbrev pub shown : Verdict → Image → Shown
+shown Accepted img = accepted (get img allowance) (get img count) (unmarked 8 img)
+shown (Refused r) img = refused (r .number) (r .extra)
 
 -- acts, each left out where it is refused
 abbrev pub next : Verdict → Image → Image → Image
@@ -45,36 +37,36 @@ after img [] = img
 after img (a ∷ rest) = after (next (judge 2 4 img a) img (apply 2 4 img a)) rest
 
 -- what the last act says after the others
-abbrev pub says : List Act → Act → Row
-says acts a = let img = after (blank 2 4) acts in row (judge 2 4 img a) img
+abbrev pub says : List Act → Act → Shown
+says acts a = let img = after (blank 2 4) acts in shown (judge 2 4 img a) img
 
 -- root to (0,0), the others unreferenced; both partitions traced, so that (0,0) alone is marked and both are clean
 abbrev traced-all : List Act
-traced-all = commit (new 0 0 1 ∷ new 0 1 2 ∷ new 1 0 3 ∷ new 1 1 4 ∷ root-to 0 0 0 ∷ []) ∷ opening ∷ trace 0 ∷ trace 1 ∷ []
+traced-all = commit (new 0 0 1 ∷ new 0 1 2 ∷ new 1 0 3 ∷ new 1 1 4 ∷ root-to 0 0 0 ∷ []) ∷ single Open ∷ single (Trace (partition 0)) ∷ single (Trace (partition 1)) ∷ []
 
 -- the shortcuts that the paper forbids, each with an example that it would break
 pub shortcuts :
     Agree
     -- a stored target is marked whether or not its holder is, so that its partition must be traced again
-    (case (says (traced-all ++ (commit (set-to 0 1 0 1 0 ∷ []) ∷ [])) closing) (refused 14 1) ∷
+    (case (says (traced-all ++ (commit (set-to 0 1 0 1 0 ∷ []) ∷ [])) (single Close)) (refused 14 1) ∷
     -- also where the target is in its holder's partition
-    case (says (traced-all ++ (commit (set-to 0 0 0 0 1 ∷ []) ∷ [])) closing) (refused 14 0) ∷
+    case (says (traced-all ++ (commit (set-to 0 0 0 0 1 ∷ []) ∷ [])) (single Close)) (refused 14 0) ∷
     -- no close without a root, though all partitions are clean
-    case (says (traced-all ++ (commit (unroot 0 ∷ []) ∷ [])) closing) (refused 12 0) ∷
+    case (says (traced-all ++ (commit (unroot 0 ∷ []) ∷ [])) (single Close)) (refused 12 0) ∷
     -- a refused trace does not count, and a commit does not restart the count
-    case (says (traced-all ++ (trace 0 ∷ commit (val 0 0 9 ∷ []) ∷ [])) closing) (accepted 5 2 3) ∷
+    case (says (traced-all ++ (single (Trace (partition 0)) ∷ commit (val 0 0 9 ∷ []) ∷ [])) (single Close)) (accepted 5 2 3) ∷
     -- a trace marks what it reaches and no more, and it marks that
-    case (says (commit three ∷ commit (new 1 1 40 ∷ []) ∷ opening ∷ trace 0 ∷ []) (trace 1)) (accepted 5 1 2) ∷
+    case (says (commit three ∷ commit (new 1 1 40 ∷ []) ∷ single Open ∷ single (Trace (partition 0)) ∷ []) (single (Trace (partition 1)))) (accepted 5 1 2) ∷
     -- a partition that was clean is not, once a trace of another marks an object of it
-    case (says (commit three ∷ opening ∷ trace 0 ∷ trace 1 ∷ []) closing) (refused 14 0) ∷
+    case (says (commit three ∷ single Open ∷ single (Trace (partition 0)) ∷ single (Trace (partition 1)) ∷ []) (single Close)) (refused 14 0) ∷
     -- the allowance is P plus the objects in use that no root names
     case (number (2 + unrooted 2 4 (after (blank 2 4) (commit three ∷ [])))) (number 4) ∷
     [])
-unfolding addr get put lengthOf blank placeOf partOf wordOf abroad lose gain recount refer release each again tally every first follow pass spread mark markWord store born perform performAll unmarked notClean unclean markRoots allow openUp inside outside finish traceOne clear settle shut closeUp apply check andThen judgeOp judgeOps rooted led lowest judge unrooted
+unfolding imaging looping acting judging unrooted
 shortcuts = (refl, (refl, (refl, (refl, (refl, (refl, (refl, tt)))))))
 
 -- local collections after the paper's transaction and one more
-abbrev frees : List Act → ℕ → Row
+abbrev frees : List Act → ℕ → Shown
 frees acts p = let img = after (blank 2 4) acts in collected (localFreed 2 4 p img) (get img (inlist 6)) (unmarked 8 (localUp 2 4 p img))
 
 pub locals :
@@ -85,13 +77,13 @@ pub locals :
     case (frees (commit three ∷ commit (new 0 2 1 ∷ new 0 3 2 ∷ set-to 0 2 0 0 3 ∷ set-to 0 3 0 0 2 ∷ []) ∷ []) 0) (collected 2 0 3) ∷
     -- two fields count two, and when their object goes, what they named is counted 0 and goes next
     case (frees (commit three ∷ commit (new 0 2 1 ∷ new 1 2 2 ∷ set-to 0 2 0 1 2 ∷ set-to 0 2 1 1 2 ∷ []) ∷ []) 0) (collected 1 2 4) ∷
-    case (frees (commit three ∷ commit (new 0 2 1 ∷ new 1 2 2 ∷ set-to 0 2 0 1 2 ∷ set-to 0 2 1 1 2 ∷ []) ∷ local 0 ∷ []) 1) (collected 1 0 3) ∷
+    case (frees (commit three ∷ commit (new 0 2 1 ∷ new 1 2 2 ∷ set-to 0 2 0 1 2 ∷ set-to 0 2 1 1 2 ∷ []) ∷ single (Local (partition 0)) ∷ []) 1) (collected 1 0 3) ∷
     -- no flag changes: what is not clean stays so, and what is clean too
-    case (says (commit three ∷ opening ∷ local 0 ∷ []) closing) (refused 14 0) ∷
-    case (says (traced-all ++ (local 0 ∷ [])) closing) (accepted 5 2 2) ∷
+    case (says (commit three ∷ single Open ∷ single (Local (partition 0)) ∷ []) (single Close)) (refused 14 0) ∷
+    case (says (traced-all ++ (single (Local (partition 0)) ∷ [])) (single Close)) (accepted 5 2 2) ∷
     -- its refusals: 7 before 12
-    case (says [] (local 2)) (refused 7 0) ∷
-    case (says [] (local 0)) (refused 12 0) ∷
+    case (says [] (single (Local (partition 2)))) (refused 7 0) ∷
+    case (says [] (single (Local (partition 0)))) (refused 12 0) ∷
     [])
-unfolding addr get put lengthOf blank placeOf partOf wordOf abroad lose gain recount refer release each again tally every first follow pass spread mark markWord store born perform performAll unmarked notClean unclean markRoots allow openUp inside outside finish traceOne clear settle shut closeUp localStart localBits freeBut localUp localFreed hasBit addBit collect apply check andThen judgeOp judgeOps rooted led lowest judge
+unfolding imaging looping acting judging
 locals = (refl, (refl, (refl, (refl, (refl, (refl, (refl, (refl, tt))))))))

@@ -15,30 +15,32 @@ use Rattle.kinds.specs.declared.Target.{Target}
 use Rattle.kinds.specs.declared.Target.the-variants.{Object}
 use Rattle.kinds.specs.declared.Operation.{Operation}
 use Rattle.kinds.specs.declared.Operation.the-variants.{New, Set, Val, Root}
+use Rattle.kinds.specs.declared.Single.the-variants.{Open, Trace, Close, Local}
 use Rattle.kinds.specs.declared.Verdict.the-variants.{Accepted}
 use Rattle.model.specs.Image.{Image, Key, root, flag, state, payload, field, count, get, put, place, placeOf, refer, Holder, a-root, a-field}
 use Rattle.model.specs.Spread.{start, step}
-use Rattle.model.specs.Acts.{Act, commit, opening, closing, trace, local, localBits, localUp, mark, store, born, perform, performAll, openUp, target, inside, outside, finish, traceOne, apply}
+use Rattle.model.specs.Acts.{Act, commit, single, localBits, localUp, mark, store, born, perform, performAll, openUp, target, inside, outside, finish, traceOne, apply}
 use Rattle.model.specs.Judge.{judgeOps, led, judge}
 use Rattle.model.specs.History.{Run, still, acted, Unclosed}
-use Rattle.model.specs.Chains.{Names, Leads, Stays, Step, op, traced, push, steps, birth, Above, bare, more, Since, last, before, Chain, from-root, created, stored-field, stored-root, along-held, toOpening, ChainTo}
+use Rattle.model.specs.Chains.{Names, Leads, Stays, Step, op, push, steps, birth, Above, bare, more, Since, last, before, Chain, from-root, created, stored-field, stored-root, along-held, toOpening, ChainTo}
 use Rattle.model.proofs.Keys.{Fits, Sized, same, get-put-apart, sized-length}
-use Rattle.model.proofs.Places.{Shape, slot-in, word-none, place-word}
-use Rattle.model.proofs.Moves.{Linked, Phase, open-true, phase-mark, phase-payload, phase-born, refer-state, refer-read}
+use Rattle.model.proofs.Places.{slot-in, word-none, place-word}
+use Rattle.model.proofs.Moves.{Linked, refer-state, refer-read}
+use Rattle.model.proofs.Phase.{Phase, open-true, phase-mark, phase-payload, phase-born}
 use Rattle.model.proofs.Tracing.{mark-read, mark-linked, trace-marks, phase-trace}
 use Rattle.model.proofs.Committing.{check-true, then-true, May, none, some, Good, good-new, good-set, good-val, good-root, good, at-field, no-field, target-used, mark-word-keeps, store-open, phase-store}
 use Rattle.model.proofs.Opening.{Shut, phase-open, open-marks, open-field}
 use Rattle.model.proofs.Closing.{the-payload, the-field, led-leads, close-state, close-kept}
 use Rattle.model.proofs.Reaching.{traced-is, closed-is, opened-is}
 use Rattle.model.specs.Questions.{hasBit}
-use Rattle.model.specs.Sound.{SoundAt}
+use Rattle.model.specs.Sound.{Limits, SoundAt}
 use Rattle.model.proofs.Freeing.{of-state, Apart, free-same, free-phase, stayed, kept-ref}
 use Rattle.model.proofs.SoundnessActs.{run-kept, local-in, local-apart}
 
 renamed : {S : ℕ} {x y : Image} {κ : Key} {t : ℕ} → get y κ ≡ get x κ → Names S y κ t → Names S x κ t
 renamed e n = record { some = λ q. n .some (e ∙ q); target = rw (← e) (n .target) }
 
-module _ (P S : ℕ) (shape : Shape P S) where
+module _ (P S : ℕ) (limits : Limits P S) where
   -- where 16 finds nothing, what a root leads to is marked
   leads-marked : (x : Image) → Linked P S x → led P S x ≡ true → (i : ℕ) → Leads S x i → (i < P * S) × (get x (state i) ≡ 2)
   leads-marked x w e i (start c) = rw (← c .2 .target) (w .refs _ (a-root (c .1)) (c .2 .some) .0, led-leads P S x e _ (a-root (c .1)) tt (c .2 .some))
@@ -48,17 +50,17 @@ module _ (P S : ℕ) (shape : Shape P S) where
       rw (← n .2 .target) (w .refs _ h (n .2 .some) .0, led-leads P S x e _ h (m .1) (n .2 .some))
 
   -- close keeps every object that a root leads to
-  pub close-keeps : (x : Image) → Linked P S x → judge P S x closing ≡ Accepted → (i : ℕ) → Leads S x i → Stays x (apply P S x closing) i
+  pub close-keeps : (x : Image) → Linked P S x → judge P S x (single Close) ≡ Accepted → (i : ℕ) → Leads S x i → Stays x (apply P S x (single Close)) i
   unfolding apply
   close-keeps x w j i l =
-      let m = leads-marked x w (closed-is P S shape x j .1) i l in
+      let m = leads-marked x w (closed-is P S limits x j .1) i l in
       let two = m .1 in
       let ne : get x (state i) ≢ 1 = λ q. omega arith in
-      let s = close-state P S shape x w i (m .0) in
+      let s = close-state P S limits x w i (m .0) in
       record {
         used = omega arith;
-        value = close-kept P S shape x w the-payload (m .0) ne;
-        fields = λ k lk. close-kept P S shape x w (the-field lk) (m .0) ne;
+        value = close-kept P S limits x w the-payload (m .0) ne;
+        fields = λ k lk. close-kept P S limits x w (the-field lk) (m .0) ne;
       }
 
   -- a mark adds one object to the marked
@@ -67,7 +69,7 @@ module _ (P S : ℕ) (shape : Shape P S) where
     where
       go : Dec (t ≡ i) → C i
       go (yes q) = rw q at c
-      go (no q) = old i m (sym (mark-read P S shape z t (state i) l tt (ne-eqb t i q) refl) ∙ e)
+      go (no q) = old i m (sym (mark-read P S limits z t (state i) l tt (ne-eqb t i q) refl) ∙ e)
 
   -- x is the heap at the opening, `base` the steps up to there
   module _ (x : Image) (base : List Step) (Taken : Step → List Step → Type 0) where
@@ -96,22 +98,22 @@ module _ (P S : ℕ) (shape : Shape P S) where
 
       marking : Marking (outside S p (inside S p y))
       marking =
-          trace-marks P S shape p inp Marking (λ z w. w .linked)
+          trace-marks P S limits p inp Marking (λ z w. w .linked)
           (λ z i k l m a ne u w.
           let f = w .fields i k m in
           let n : Names S y (field i k) (target S z i k) = record { some = λ q. ne (f ∙ q); target = ap (placeOf S) (sym f) } in
           record {
-            linked = mark-linked P S shape z _ u (w .linked);
-            fields = λ b d ld. mark-read P S shape z _ (field b d) u ld refl refl ∙ w .fields b d ld;
+            linked = mark-linked P S limits z _ u (w .linked);
+            fields = λ b d ld. mark-read P S limits z _ (field b d) u ld refl refl ∙ w .fields b d ld;
             marks = mark-adds (ChainOf h) z _ u (follow-chain h y i k _ c l m (w .marks i l a) n) (w .marks);
           })
           y (record { linked = c .phase .linked; fields = λ i k l. refl; marks = c .marks })
 
-      chained-trace : get y (flag p) ≡ 0 → Chained (traced p ∷ h) (traceOne S p y)
+      chained-trace : get y (flag p) ≡ 0 → Chained h (traceOne S p y)
       unfolding traceOne finish birth
       chained-trace f =
           record {
-            phase = phase-trace P S shape p inp y (c .phase) f;
+            phase = phase-trace P S limits p inp y (c .phase) f;
             marks = λ i l e. marking .marks i l (sym (cell (state i) tt refl refl) ∙ e);
             refs = λ i k t l m n. c .refs i k t l m (renamed (cell (field i k) m refl refl ∙ marking .fields i k m) n);
           }
@@ -125,9 +127,9 @@ module _ (P S : ℕ) (shape : Shape P S) where
     chained-mark : (h : List Step) (y : Image) (t : ℕ) → t < P * S → ChainOf h t → Chained h y → Chained h (mark S y t)
     chained-mark h y t l a c =
         record {
-          phase = phase-mark P S shape y t l (c .phase);
+          phase = phase-mark P S limits y t l (c .phase);
           marks = mark-adds (ChainOf h) y t l a (c .marks);
-          refs = λ i k v li m n. c .refs i k v li m (renamed (mark-read P S shape y t (field i k) l m refl refl) n);
+          refs = λ i k v li m n. c .refs i k v li m (renamed (mark-read P S limits y t (field i k) l m refl refl) n);
         }
 
     -- a reference stored
@@ -136,18 +138,18 @@ module _ (P S : ℕ) (shape : Shape P S) where
         let z = c .phase .linked .size in
         record {
           phase = ph;
-          marks = λ i l e. c .marks i l (sym (refer-state P S shape y κ w g z i) ∙ e);
+          marks = λ i l e. c .marks i l (sym (refer-state P S limits y κ w g z i) ∙ e);
           refs = λ i k t l m n.
               ⊎-elim (λ r. inl (rw (ap (placeOf S) (sym (r .0)) ∙ n .target) at (a (λ q. n .some (r .0 ∙ q))))) (λ r. c .refs i k t l m (renamed r n))
-              (refer-read P S shape y κ w g z (field i k) (a-field l m));
+              (refer-read P S limits y κ w g z (field i k) (a-field l m));
         }
 
     chained-store : (h : List Step) (y : Image) (κ : Key) (t : Target) → Holder (P * S) κ → ((i k : ℕ) → κ ≡ field i k → get y (state i) ≢ 0) → May P S y t
         → (wordOf t ≢ 0 → ChainOf h (placeOf S (wordOf t))) → Chained h y → Chained h (store S y κ t)
     chained-store h y κ t g u m a c =
-        let e = store-open P S shape y κ t (c .phase) in
-        let d = mark-word-keeps P S shape (Chained h) y (wordOf t) (λ ne. chained-mark h y _ (target-used P S shape y t m ne .0) (a ne) c) (λ z. c) in
-        subst (Chained h) e (chained-refer h _ κ (wordOf t) g a (rw e (phase-store P S shape y κ t g u m (c .phase))) d)
+        let e = store-open P S limits y κ t (c .phase) in
+        let d = mark-word-keeps P S limits (Chained h) y (wordOf t) (λ ne. chained-mark h y _ (target-used P S limits y t m ne .0) (a ne) c) (λ z. c) in
+        subst (Chained h) e (chained-refer h _ κ (wordOf t) g a (rw e (phase-store P S limits y κ t g u m (c .phase))) d)
 
     -- what a stored target's word names
     stored-word : (h : List Step) (y : Image) (t : Target) → May P S y t → ((q : Name) → t ≡ Object q → ChainOf h (place S q)) → wordOf t ≢ 0 → ChainOf h (placeOf S (wordOf t))
@@ -159,7 +161,7 @@ module _ (P S : ℕ) (shape : Shape P S) where
     unfolding born birth
     chained-new h y n v lp ls e tk c =
         record {
-          phase = phase-born P S shape y i v l e (c .phase);
+          phase = phase-born P S limits y i v l e (c .phase);
           marks = λ j lj m. now j lj m (ℕ-discrete i j);
           refs = λ j k t lj m n.
               let n' : Names S y (field j k) t = renamed (field-kept j k m) n in
@@ -172,7 +174,7 @@ module _ (P S : ℕ) (shape : Shape P S) where
         i = place S n
 
         l : i < P * S
-        l = slot-in P S (shape .some-slot) _ _ lp ls
+        l = slot-in P S (limits .some-slot) _ _ lp ls
 
         same-birth : (j : ℕ) → i ≢ j → birth S (op (New n v) ∷ h) j ≡ birth S h j
         same-birth j ne = rw (ne-eqb i j ne)
@@ -190,11 +192,11 @@ module _ (P S : ℕ) (shape : Shape P S) where
     chained-perform h y _ (good-new {n = n} {v = v} lp ls e) tk c = chained-new h y n v lp ls e tk c
     chained-perform h y _ (good-set {n = n} {k = k} {t = t} lp ls lk u m) tk c =
         chained-births h (op (Set n k t) ∷ h) _ (λ i. refl)
-        (chained-store h y _ _ (a-field (slot-in P S (shape .some-slot) _ _ lp ls) lk) (at-field (λ j. get y (state j) ≢ 0) u) m (stored-word h y t m (λ q e. stored-field (rw e at tk))) c)
+        (chained-store h y _ _ (a-field (slot-in P S (limits .some-slot) _ _ lp ls) lk) (at-field (λ j. get y (state j) ≢ 0) u) m (stored-word h y t m (λ q e. stored-field (rw e at tk))) c)
     chained-perform h y _ (good-val {n = n} {v = v} lp ls u) tk c =
         chained-births h (op (Val n v) ∷ h) _ (λ i. refl)
         (record {
-          phase = phase-payload P S shape y _ _ (slot-in P S (shape .some-slot) _ _ lp ls) (c .phase);
+          phase = phase-payload P S limits y _ _ (slot-in P S (limits .some-slot) _ _ lp ls) (c .phase);
           marks = λ i l e. c .marks i l (sym (get-put-apart y (payload (place S n)) v (state i) tt tt refl) ∙ e);
           refs = λ i k t l m n'. c .refs i k t l m (renamed (get-put-apart y (payload (place S n)) v (field i k) tt m refl) n');
         })
@@ -207,9 +209,9 @@ module _ (P S : ℕ) (shape : Shape P S) where
     unfolding localUp
     chained-local h y p l s c =
         record {
-          phase = free-phase P S shape S at stay inn y z a (c .phase);
-          marks = λ i li e. c .marks i li (sym (free-same P S shape S at stay inn y z a i (state i) of-state (stayed P S shape S at stay inn y z a i (λ q. omega arith))) ∙ e);
-          refs = λ i k t li m n. c .refs i k t li m (renamed (kept-ref P S shape S at stay inn y z a (field i k) (a-field li m) (n .some) .0) n);
+          phase = free-phase P S limits S at stay inn y z a (c .phase);
+          marks = λ i li e. c .marks i li (sym (free-same P S limits S at stay inn y z a i (state i) of-state (stayed P S limits S at stay inn y z a i (λ q. omega arith))) ∙ e);
+          refs = λ i k t li m n. c .refs i k t li m (renamed (kept-ref P S limits S at stay inn y z a (field i k) (a-field li m) (n .some) .0) n);
         }
       where
         at : ℕ → ℕ
@@ -242,10 +244,7 @@ module _ (P S : ℕ) (shape : Shape P S) where
     unfolding steps
     above-steps [] = bare
     above-steps (commit os ∷ acts) = above-push os _ (above-steps acts)
-    above-steps (opening ∷ acts) = more (above-steps acts)
-    above-steps (trace p ∷ acts) = more (above-steps acts)
-    above-steps (closing ∷ acts) = more (above-steps acts)
-    above-steps (local p ∷ acts) = more (above-steps acts)
+    above-steps (single a ∷ acts) = more (above-steps acts)
 
     chained-commit : (h : List Step) (y : Image) (e : ℕ) (os : List Operation) → judgeOps P S y e os ≡ Accepted → ((s : Step) (f : List Step) → Since base (push os h) s f → Taken s f) → Above base h
         → Chained h y → Chained (push os h) (performAll S y os)
@@ -256,37 +255,37 @@ module _ (P S : ℕ) (shape : Shape P S) where
         chained-commit (op o ∷ h) (perform S y o) (e + 1) os (b .1) sub (more a)
         (chained-perform h y o (good P S y e o (b .0)) (sub (op o) h (since-push os (op o ∷ h) (op o) h (last a))) c)
 
-    chained-open : Shut P S shape x → Chained base (openUp P S x)
+    chained-open : Shut P S limits x → Chained base (openUp P S x)
     chained-open sh =
         record {
-          phase = phase-open P S shape x (sh .linked);
-          marks = λ i l e. let q = open-marks P S shape x sh i l e in from-root (q .1) (q .2);
-          refs = λ i k t l m n. inr (renamed (open-field P S shape x (sh .linked) i k l m) n, refl, refl);
+          phase = phase-open P S limits x (sh .linked);
+          marks = λ i l e. let q = open-marks P S limits x sh i l e in from-root (q .1) (q .2);
+          refs = λ i k t l m n. inr (renamed (open-field P S limits x (sh .linked) i k l m) n, refl, refl);
         }
 
-    chained : Shut P S shape x → SoundAt P S (apply P S x opening) → (acts : List Act) (y : Image) → Run P S (apply P S x opening) acts y → Unclosed acts
+    chained : Shut P S limits x → SoundAt P S (apply P S x (single Open)) → (acts : List Act) (y : Image) → Run P S (apply P S x (single Open)) acts y → Unclosed acts
         → ((s : Step) (e : List Step) → Since base (steps acts base) s e → Taken s e) → Chained (steps acts base) y
     unfolding steps judge apply birth
     chained sh so _ _ still u sub = chained-open sh
     chained sh so _ _ (acted {acts = acts} {y = y} (commit os) r j) u sub =
         chained-commit (steps acts base) y 1 os (check-true _ _ _ _ j .1) sub (above-steps acts) (chained sh so acts y r u (λ s e q. sub s e (since-push os _ s e q)))
-    chained sh so _ _ (acted {acts = acts} {y = y} opening r j) u sub =
-        absurd (clash (open-true P S shape y (chained sh so acts y r u (λ s e q. sub s e (before q)) .phase)) (opened-is P S shape y j))
-    chained sh so _ _ (acted {acts = acts} {y = y} (trace p) r j) u sub =
-        let t = traced-is P S shape y p j in
-        chained-trace _ y (chained sh so acts y r u (λ s e q. sub s e (before q))) p (t .1) (t .2)
-    chained sh so _ _ (acted {acts = acts} {y = y} closing r j) u sub = absurd u
-    chained sh so _ _ (acted {acts = acts} {y = y} (local p) r j) u sub =
+    chained sh so _ _ (acted {acts = acts} {y = y} (single Open) r j) u sub =
+        absurd (clash (open-true P S limits y (chained sh so acts y r u (λ s e q. sub s e (before q)) .phase)) (opened-is P S limits y j))
+    chained sh so _ _ (acted {acts = acts} {y = y} (single (Trace p)) r j) u sub =
+        let t = traced-is P S limits y p j in
+        chained-births (steps acts base) _ _ (λ i. refl) (chained-trace _ y (chained sh so acts y r u (λ s e q. sub s e (before q))) (p .0) (t .1) (t .2))
+    chained sh so _ _ (acted {acts = acts} {y = y} (single Close) r j) u sub = absurd u
+    chained sh so _ _ (acted {acts = acts} {y = y} (single (Local p)) r j) u sub =
         chained-births (steps acts base) _ _ (λ i. refl)
-        (chained-local (steps acts base) y p (ltb-true p P (check-true _ _ _ _ j .0)) (run-kept P S _ so r .sound) (chained sh so acts y r u (λ s e q. sub s e (before q))))
+        (chained-local (steps acts base) y (p .0) (ltb-true (p .0) P (check-true _ _ _ _ j .0)) (run-kept P S _ so r .sound) (chained sh so acts y r u (λ s e q. sub s e (before q))))
 
   -- close frees every object that no chain leads to
-  pub close-frees : (earlier : List Act) (x : Image) → Shut P S shape x → SoundAt P S (apply P S x opening) → (acts : List Act) (y : Image) → Run P S (apply P S x opening) acts y → Unclosed acts
-      → (i : ℕ) → i < P * S → (ChainTo S earlier x acts i → ⊥) → get (apply P S y closing) (state i) ≡ 0
+  pub close-frees : (earlier : List Act) (x : Image) → Shut P S limits x → SoundAt P S (apply P S x (single Open)) → (acts : List Act) (y : Image) → Run P S (apply P S x (single Open)) acts y → Unclosed acts
+      → (i : ℕ) → i < P * S → (ChainTo S earlier x acts i → ⊥) → get (apply P S y (single Close)) (state i) ≡ 0
   unfolding apply
   close-frees earlier x sh so acts y s u i l unchained =
       let c = chained x (toOpening earlier) _ sh so acts y s u (λ s e q. q) in
       let two : get y (state i) ≢ 2 = λ q. unchained (c .marks i l q) in
       let b = c .phase .linked .states i l in
-      let e = close-state P S shape y (c .phase .linked) i l in
+      let e = close-state P S limits y (c .phase .linked) i l in
       omega arith

@@ -16,8 +16,8 @@ use Rattle.kinds.specs.Names.{mostPartitions}
 use Rattle.model.specs.Image.{Image, Key, head, root, flag, state, payload, field, phase, count, allowance, anchors, get, put, placeOf, release, Holder, a-root, a-field}
 use Rattle.model.specs.Acts.{marked, clear, settle, shut, closeUp}
 use Rattle.model.specs.Judge.{leadsOn, led}
+use Rattle.model.specs.Sound.{Limits}
 use Rattle.model.proofs.Keys.{Fits, Sized, same, touches, get-put-apart, sized-put, get-put-same, release-apart, sized-release, release-same}
-use Rattle.model.proofs.Places.{Shape}
 use Rattle.model.proofs.Moves.{Linked, unclean-other, sized-unclean, unclean-flag}
 
 -- what a slot holds: its payload and its fields
@@ -186,7 +186,7 @@ led-leads P S x e κ (a-field {j = i} {k = k} l m) v ne =
     let c : cond (marked x i) (every 4 (λ k. leadsOn S x (field i k))) true ≡ true = every-true (P * S) _ (both-true (every anchors (λ r. leadsOn S x (root r))) _ e .1) i l in
     leads-on S x κ (every-true 4 _ (rw (eq-eqb (get x (state i)) 2 v) at c) k m) ne
 
-module _ (P S : ℕ) (shape : Shape P S) (x : Image) (w : Linked P S x) where
+module _ (P S : ℕ) (limits : Limits P S) (x : Image) (w : Linked P S x) where
   pub close-size : Sized (P * S) (closeUp P S x)
   unfolding closeUp
   close-size = shut-size (P * S) _ (swept-size (P * S) S x (w .size) (P * S))

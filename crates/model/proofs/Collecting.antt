@@ -14,14 +14,13 @@ use Rattle.loops.proofs.Walks.{tally-none-pass}
 use Rattle.model.specs.Image.{Image, Key, head, root, flag, state, payload, inlist, field, isCount, get, placeOf, partOf, Holder}
 use Rattle.model.specs.Acts.{used, localBits, localUp, localFreed}
 use Rattle.model.specs.Questions.{hasBit}
-use Rattle.model.specs.Sound.{SoundAt}
+use Rattle.model.specs.Sound.{Limits, SoundAt}
 use Rattle.model.specs.Effects.{In, KeptIn, Localizes, frees, frees-payload, frees-field, freed, Localized, Untouched, Spares}
 use Rattle.model.proofs.Keys.{Sized, sized-length}
-use Rattle.model.proofs.Places.{Shape, slot-of, slot-in, part-of}
+use Rattle.model.proofs.Places.{slot-of, slot-in, part-of}
 use Rattle.model.proofs.Closing.{the-payload, the-field}
 use Rattle.model.proofs.Freeing.{Of, of-state, of-content, NotFreed, free-same, free-gone, free-head, free-flag, free-root}
 use Rattle.model.proofs.Localizing.{local-so, local-only, local-leads}
-use Rattle.model.proofs.Soundness.{sound-limits}
 use Rattle.model.proofs.SoundnessMoves.{reference-place}
 use Rattle.model.proofs.SoundnessActs.{local-in, local-apart, local-sound}
 
@@ -40,8 +39,8 @@ tally-window (suc n) lo (suc m) f l a b =
     (lt-or-ge n (lo + suc m))
 
 module _ (P S p : ℕ) (l : p < P) (x : Image) (s : SoundAt P S x) where
-  shape : Shape P S
-  shape = sound-limits P S x s
+  limits : Limits P S
+  limits = s .limits
 
   abbrev at : ℕ → ℕ
   at j = p * S + j
@@ -60,21 +59,21 @@ module _ (P S p : ℕ) (l : p < P) (x : Image) (s : SoundAt P S x) where
 
   same-word : (i : ℕ) (μ : Key) → Of i μ → NotFreed P S S at stay i → get after μ ≡ get x μ
   unfolding localUp
-  same-word i μ o e = free-same P S shape S at stay (local-in P S x s p l) x z (local-apart P S x s p l) i μ o e
+  same-word i μ o e = free-same P S limits S at stay (local-in P S x s p l) x z (local-apart P S x s p l) i μ o e
 
   gone-word : (i : ℕ) (μ : Key) → Of i μ → partOf S i ≡ p → stay i ≡ false → get after μ ≡ 0
   unfolding localUp
-  gone-word i μ o e b = let q = slot-of P S (s .some-slot) i p e in free-gone P S shape S at stay (local-in P S x s p l) x z (local-apart P S x s p l) i μ o (q .0, q .1, q .2, b)
+  gone-word i μ o e b = let q = slot-of P S (s .limits .some-slot) i p e in free-gone P S limits S at stay (local-in P S x s p l) x z (local-apart P S x s p l) i μ o (q .0, q .1, q .2, b)
 
   far-word : (i : ℕ) (μ : Key) → Of i μ → partOf S i ≢ p → get after μ ≡ get x μ
-  far-word i μ o ne = same-word i μ o (λ j lj q. absurd (ne (subst (λ (v : ℕ). partOf S v ≡ p) q (part-of P S (s .some-slot) p j lj))))
+  far-word i μ o ne = same-word i μ o (λ j lj q. absurd (ne (subst (λ (v : ℕ). partOf S v ≡ p) q (part-of P S (s .limits .some-slot) p j lj))))
 
   -- what is not kept is freed
   lost-word : (i : ℕ) (μ : Key) → Of i μ → partOf S i ≡ p → (KeptIn S p x i → ⊥) → get after μ ≡ 0
   lost-word i μ o e none = go (stay i) refl
     where
       go : (b : Bool) → stay i ≡ b → get after μ ≡ 0
-      go true h = absurd (none (local-only P S (s .some-slot) p l x refs i h))
+      go true h = absurd (none (local-only P S (s .limits .some-slot) p l x refs i h))
       go false h = gone-word i μ o e h
 
   -- and every word of a slot is freed or as it was
@@ -84,7 +83,7 @@ module _ (P S p : ℕ) (l : p < P) (x : Image) (s : SoundAt P S x) where
       go : Dec (partOf S i ≡ p) → (b : Bool) → stay i ≡ b → ((v : ℕ) × Localizes S p x μ v) ⊎ (get after μ ≡ get x μ)
       go (no ne) b e = inr (far-word i μ o ne)
       go (yes q) true e = inr (same-word i μ o (λ j lj r. e))
-      go (yes q) false e = inl (0, h q (λ k. clash (local-so P S (s .some-slot) p l x refs i k) e))
+      go (yes q) false e = inl (0, h q (λ k. clash (local-so P S (s .limits .some-slot) p l x refs i k) e))
 
   written : (κ : Key) (v : ℕ) → In (P * S) κ → Localizes S p x κ v → get after κ ≡ v
   written _ _ i (frees {j = j} e none) = lost-word j (state j) of-state e none
@@ -93,13 +92,13 @@ module _ (P S p : ℕ) (l : p < P) (x : Image) (s : SoundAt P S x) where
 
   pub local-head : (h : ℕ) → h < 5 → get after (head h) ≡ get x (head h)
   unfolding localUp
-  local-head h i = free-head P S shape S at stay (local-in P S x s p l) x z (local-apart P S x s p l) h i
+  local-head h i = free-head P S limits S at stay (local-in P S x s p l) x z (local-apart P S x s p l) h i
 
   others : (κ : Key) → In (P * S) κ → isCount κ ≡ false → ((v : ℕ) × Localizes S p x κ v) ⊎ (get after κ ≡ get x κ)
   unfolding localUp
   others (head h) i c = inr (local-head h i)
-  others (root r) i c = inr (free-root P S shape S at stay (local-in P S x s p l) x z (local-apart P S x s p l) r i)
-  others (flag q) i c = inr (free-flag P S shape S at stay (local-in P S x s p l) x z (local-apart P S x s p l) q i)
+  others (root r) i c = inr (free-root P S limits S at stay (local-in P S x s p l) x z (local-apart P S x s p l) r i)
+  others (flag q) i c = inr (free-flag P S limits S at stay (local-in P S x s p l) x z (local-apart P S x s p l) q i)
   others (state j) i c = slot-word j (state j) of-state frees
   others (payload j) i c = slot-word j (payload j) (of-content the-payload) frees-payload
   others (field j k) i c = slot-word j (field j k) (of-content (the-field (i .1))) frees-field
@@ -111,7 +110,7 @@ module _ (P S p : ℕ) (l : p < P) (x : Image) (s : SoundAt P S x) where
     where
       go : (b : Bool) → stay (at j) ≡ b → used after (at j) ≡ both b (used x (at j))
       go true e = let q = same-word (at j) (state (at j)) of-state (λ i li r. e) in rw q
-      go false e = let q = gone-word (at j) (state (at j)) of-state (part-of P S (s .some-slot) p j lj) e in rw q
+      go false e = let q = gone-word (at j) (state (at j)) of-state (part-of P S (s .limits .some-slot) p j lj) e in rw q
 
   number : localFreed P S p x ≡ freed (P * S) x after
   unfolding localFreed freed
@@ -130,12 +129,12 @@ module _ (P S p : ℕ) (l : p < P) (x : Image) (s : SoundAt P S x) where
       far i ne = let q = far-word i (state i) of-state ne in rw q (both-not (used x i))
 
       room : p * S + S ≤ P * S
-      room = let r = slot-in P S (s .some-slot) p (S - 1) l (omega (arith, s .some-slot)) in omega (arith, s .some-slot)
+      room = let r = slot-in P S (s .limits .some-slot) p (S - 1) l (omega (arith, s .limits .some-slot)) in omega (arith, s .limits .some-slot)
 
       windowed : tally (P * S) (λ i. both (used x i) (not (used after i))) ≡ tally S (λ j. both (used x (at j)) (not (used after (at j))))
       windowed =
-          tally-window (P * S) (p * S) S _ room (λ i li. far i (λ e. let q = slot-of P S (s .some-slot) i p e in omega (arith, q .2)))
-          (λ i g li. far i (λ e. let q = slot-of P S (s .some-slot) i p e in omega (arith, q .1, q .2)))
+          tally-window (P * S) (p * S) S _ room (λ i li. far i (λ e. let q = slot-of P S (s .limits .some-slot) i p e in omega (arith, q .2)))
+          (λ i g li. far i (λ e. let q = slot-of P S (s .limits .some-slot) i p e in omega (arith, q .1, q .2)))
 
   pub localized : Localized P S p x after
   localized =
@@ -150,6 +149,6 @@ module _ (P S p : ℕ) (l : p < P) (x : Image) (s : SoundAt P S x) where
   pub spares : Spares P S p x after
   spares =
       record {
-        led = λ i c. untouched i (λ μ o. same-word i μ o (local-leads P S (s .some-slot) p l x refs (s .right) i c .1));
+        led = λ i c. untouched i (λ μ o. same-word i μ o (local-leads P S (s .limits .some-slot) p l x refs (s .right) i c .1));
         elsewhere = λ i li ne. untouched i (λ μ o. far-word i μ o ne);
       }

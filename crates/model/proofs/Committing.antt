@@ -22,10 +22,13 @@ use Rattle.kinds.specs.declared.Verdict.the-variants.{Accepted, Refused}
 use Rattle.model.specs.Image.{Image, Key, head, root, state, payload, field, anchors, get, place, placeOf, refer, Holder, a-root, a-field}
 use Rattle.model.specs.Acts.{used, isOpen, mark, markWord, store, born, perform, performAll}
 use Rattle.model.specs.Judge.{check, andThen, inHeap, targetInHeap, targetUsed, judgeOp, judgeOps}
+use Rattle.model.specs.Sound.{Limits}
 use Rattle.model.proofs.Keys.{in-fits, get-put-apart, refer-apart}
-use Rattle.model.proofs.Places.{Shape, slot-in, word-none, place-word}
+use Rattle.model.proofs.Places.{slot-in, word-none, place-word}
 use Rattle.model.proofs.Soundness.{used-true}
-use Rattle.model.proofs.Moves.{holder-in, Linked, holder-head, Phase, open-true, phase-mark, phase-payload, phase-born, phase-refer}
+use Rattle.model.proofs.Holders.{holder-in, holder-head}
+use Rattle.model.proofs.Moves.{Linked}
+use Rattle.model.proofs.Phase.{Phase, open-true, phase-mark, phase-payload, phase-born, phase-refer}
 use Rattle.model.proofs.Tracing.{mark-read, mark-marks}
 
 pub check-true : (b : Bool) (n e : ℕ) (v : Verdict) → check b n e v ≡ Accepted → (b ≡ true) × (v ≡ Accepted)
@@ -99,20 +102,20 @@ at-field Q {i} {k} q j c e = let r : i ≡ j = cc in rw (← r) q
 pub no-field : (Q : ℕ → Type 0) {r : ℕ} (j c : ℕ) → root r ≡ field j c → Q j
 no-field Q j c e = let z : _≡_ {A = ℕ} 0 1 = cc in absurd (omega arith)
 
-module _ (P S : ℕ) (shape : Shape P S) where
+module _ (P S : ℕ) (limits : Limits P S) where
   pub mark-used : (x : Image) (t j : ℕ) → t < P * S → Linked P S x → get x (state j) ≢ 0 → get (mark S x t) (state j) ≢ 0
   mark-used x t j l w u = go (ℕ-discrete t j)
     where
       go : Dec (t ≡ j) → get (mark S x t) (state j) ≢ 0
       go (yes e) =
-          let two : get (mark S x t) (state j) ≡ 2 = subst (λ (v : ℕ). get (mark S x t) (state v) ≡ 2) e (mark-marks P S shape x t l w (rw e u)) in
+          let two : get (mark S x t) (state j) ≡ 2 = subst (λ (v : ℕ). get (mark S x t) (state v) ≡ 2) e (mark-marks P S limits x t l w (rw e u)) in
           λ z. omega arith
-      go (no e) = λ z. u (sym (mark-read P S shape x t (state j) l tt (ne-eqb t j e) refl) ∙ z)
+      go (no e) = λ z. u (sym (mark-read P S limits x t (state j) l tt (ne-eqb t j e) refl) ∙ z)
 
   -- a target that may be stored names an object in use
   pub target-used : (x : Image) (t : Target) → May P S x t → wordOf t ≢ 0 → (placeOf S (wordOf t) < P * S) × (get x (state (placeOf S (wordOf t))) ≢ 0)
   target-used x _ none ne = absurd (ne word-none)
-  target-used x _ (some {q = q} lq ls u) ne = rw (place-word S q (omega arith)) (slot-in P S (shape .some-slot) _ _ lq ls, u)
+  target-used x _ (some {q = q} lq ls u) ne = rw (place-word S q (omega arith)) (slot-in P S (limits .some-slot) _ _ lq ls, u)
 
   -- the marking of a target that may be stored: nothing, or one mark
   pub mark-word-keeps : (Q : Image → Type 0) (x : Image) (w : ℕ) → (w ≢ 0 → Q (mark S x (placeOf S w))) → (w ≡ 0 → Q x) → Q (markWord S x w)
@@ -126,7 +129,7 @@ module _ (P S : ℕ) (shape : Shape P S) where
   -- in a phase
   pub store-open : (x : Image) (κ : Key) (t : Target) → Phase P S x → refer S (markWord S x (wordOf t)) κ (wordOf t) ≡ store S x κ t
   unfolding store
-  store-open x κ t ph = rw (open-true P S shape x ph)
+  store-open x κ t ph = rw (open-true P S limits x ph)
 
   -- a reference stored in a phase: its target is marked first
   pub record Stored (x : Image) (w : ℕ) (y : Image) : Type 0 where
@@ -140,22 +143,22 @@ module _ (P S : ℕ) (shape : Shape P S) where
       (λ ne.
       let u = target-used x t m ne in
       record {
-        phase = phase-mark P S shape x _ (u .0) ph;
+        phase = phase-mark P S limits x _ (u .0) ph;
         used = λ j. mark-used x _ j (u .0) (ph .linked);
-        marked = λ z. (u .0, mark-marks P S shape x _ (u .0) (ph .linked) (u .1));
+        marked = λ z. (u .0, mark-marks P S limits x _ (u .0) (ph .linked) (u .1));
       })
       (λ e. record { phase = ph; used = λ j u. u; marked = λ ne. absurd (ne e) })
 
   pub phase-store : (x : Image) (κ : Key) (t : Target) → Holder (P * S) κ → ((i k : ℕ) → κ ≡ field i k → get x (state i) ≢ 0) → May P S x t → Phase P S x → Phase P S (store S x κ t)
   phase-store x κ t h u m ph =
       let s = stored x t m ph in
-      subst (Phase P S) (store-open x κ t ph) (phase-refer P S shape _ κ (wordOf t) h (s .phase .linked .size) (λ j k e. s .used j (u j k e)) (s .marked) (s .phase))
+      subst (Phase P S) (store-open x κ t ph) (phase-refer P S limits _ κ (wordOf t) h (s .phase .linked .size) (λ j k e. s .used j (u j k e)) (s .marked) (s .phase))
 
   pub phase-perform : (x : Image) (o : Operation) → Good P S x o → Phase P S x → Phase P S (perform S x o)
   unfolding perform
-  phase-perform x _ (good-new lp ls e) ph = phase-born P S shape x _ _ (slot-in P S (shape .some-slot) _ _ lp ls) e ph
-  phase-perform x _ (good-set lp ls lk u m) ph = phase-store x _ _ (a-field (slot-in P S (shape .some-slot) _ _ lp ls) lk) (at-field (λ j. get x (state j) ≢ 0) u) m ph
-  phase-perform x _ (good-val lp ls u) ph = phase-payload P S shape x _ _ (slot-in P S (shape .some-slot) _ _ lp ls) ph
+  phase-perform x _ (good-new lp ls e) ph = phase-born P S limits x _ _ (slot-in P S (limits .some-slot) _ _ lp ls) e ph
+  phase-perform x _ (good-set lp ls lk u m) ph = phase-store x _ _ (a-field (slot-in P S (limits .some-slot) _ _ lp ls) lk) (at-field (λ j. get x (state j) ≢ 0) u) m ph
+  phase-perform x _ (good-val lp ls u) ph = phase-payload P S limits x _ _ (slot-in P S (limits .some-slot) _ _ lp ls) ph
   phase-perform x _ (good-root lr m) ph = phase-store x _ _ (a-root lr) (no-field (λ j. get x (state j) ≢ 0)) m ph
 
   -- operations leave the heads
@@ -166,12 +169,12 @@ module _ (P S : ℕ) (shape : Shape P S) where
       go : (b : Bool) → get (cond b (markWord S x (wordOf t)) x) (head h) ≡ get x (head h)
       go true =
           mark-word-keeps (λ y. get y (head h) ≡ get x (head h)) x (wordOf t)
-          (λ ne. mark-read P S shape x _ (head h) (target-used x t m ne .0) l refl refl) (λ e. refl)
+          (λ ne. mark-read P S limits x _ (head h) (target-used x t m ne .0) l refl refl) (λ e. refl)
       go false = refl
 
   pub perform-head : (x : Image) (o : Operation) (h : ℕ) → h < 5 → Good P S x o → get (perform S x o) (head h) ≡ get x (head h)
   unfolding perform born
   perform-head x _ h l (good-new lp ls e) = get-put-apart _ (payload _) _ (head h) tt l refl ∙ get-put-apart x (state _) _ (head h) tt l refl
-  perform-head x _ h l (good-set lp ls lk u m) = store-head x _ _ h l (a-field (slot-in P S (shape .some-slot) _ _ lp ls) lk) m
+  perform-head x _ h l (good-set lp ls lk u m) = store-head x _ _ h l (a-field (slot-in P S (limits .some-slot) _ _ lp ls) lk) m
   perform-head x _ h l (good-val lp ls u) = get-put-apart x (payload _) _ (head h) tt l refl
   perform-head x _ h l (good-root lr m) = store-head x _ _ h l (a-root lr) m

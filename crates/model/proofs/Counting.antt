@@ -16,7 +16,7 @@ use Rattle.model.specs.Image.{Image, Key, head, root, flag, state, paylo
 use Rattle.model.specs.Chains.{NamedAbroad}
 use Rattle.model.specs.Sound.{points, inCount, Right, SoundAt}
 use Rattle.model.proofs.Keys.{Fits, Sized, same, get-put-apart, get-put-same, sized-put, refer-apart, refer-same, sized-refer, release-apart, release-same, sized-release, lose-keeps, gain-keeps}
-use Rattle.model.proofs.Moves.{holder-same}
+use Rattle.model.proofs.Holders.{holder-same}
 use Rattle.model.proofs.Making.{Word, head-word, flag-word, state-word, payload-word, Made, as-is, worded, referred, released}
 
 bit-in : (n : ℕ) (f : ℕ → Bool) (i : ℕ) → i < n → bit (f i) ≤ tally n f

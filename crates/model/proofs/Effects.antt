@@ -19,22 +19,24 @@ use Rattle.kinds.specs.declared.Target.{Target}
 use Rattle.kinds.specs.declared.Target.the-variants.{Object}
 use Rattle.kinds.specs.declared.Operation.{Operation}
 use Rattle.kinds.specs.declared.Operation.the-variants.{New, Set, Val, Root}
+use Rattle.kinds.specs.declared.Single.the-variants.{Open, Trace, Close, Local}
 use Rattle.kinds.specs.declared.Verdict.the-variants.{Accepted}
 use Rattle.model.specs.Image.{Image, Key, head, root, flag, state, payload, inlist, field, isCount, phase, count, allowance, get, put, lengthOf, size, place, placeOf, partOf, Holder, a-root, a-field}
 use Rattle.model.specs.Spread.{Reach, start, step}
-use Rattle.model.specs.Acts.{Act, commit, opening, closing, trace, local, marked, isOpen, mark, markWord, store, born, perform, performAll, unmarked, markRoots, openUp, inside, outside, finish, traceOne, closeUp, apply, own, foreign, target}
+use Rattle.model.specs.Acts.{Act, commit, single, marked, isOpen, mark, markWord, store, born, perform, performAll, unmarked, markRoots, openUp, inside, outside, finish, traceOne, closeUp, apply, own, foreign, target}
 use Rattle.model.specs.Judge.{judgeOps, judge}
 use Rattle.model.specs.Chains.{Names}
-use Rattle.model.specs.Sound.{SoundAt}
-use Rattle.model.specs.Effects.{In, Leaves, Stores, StoresUnmarked, Performs, new-state, new-payload, new-field, val, set, root-to, marks-stored, uncleans-stored, Performed, Committed, nothing-more, and-then, Opens, marks-rooted, uncleans-all, opens, restarts, allows, Opened, Within, Beyond, Traces, marks-within, marks-beyond, uncleans-beyond, cleans, counts, Closes, frees, frees-payload, frees-field, unmarks, shuts, flags-down, freed, Effect}
+use Rattle.model.specs.Sound.{Limits, SoundAt}
+use Rattle.model.specs.Effects.{In, Leaves, Stores, StoresUnmarked, Performs, new-state, new-payload, new-field, val, set, root-to, marks-stored, uncleans-stored, Performed, Committed, nothing-more, and-then}
+use Rattle.model.specs.Effects.{Opens, marks-rooted, uncleans-all, opens, restarts, allows, Opened, Within, Beyond, Traces, marks-within, marks-beyond, uncleans-beyond, cleans, counts, Closes, frees, frees-payload, frees-field, unmarks, shuts, flags-down, freed, Effect}
 use Rattle.model.proofs.Keys.{Fits, NoCount, same, in-fits, get-put-apart, sized-put, words-same, sized-length}
-use Rattle.model.proofs.Places.{Shape, parts, part-of, slot-in, slot-of, word-none, place-word}
-use Rattle.model.proofs.Moves.{Linked, holder-in, newMark-state, newMark-flag, mark-keeps, unclean-other, unclean-flag, holder-state, holder-flag}
+use Rattle.model.proofs.Places.{parts, part-of, slot-in, slot-of, word-none, place-word}
+use Rattle.model.proofs.Holders.{holder-in, holder-state, holder-flag}
+use Rattle.model.proofs.Moves.{Linked, newMark-state, newMark-flag, mark-keeps, unclean-other, unclean-flag}
 use Rattle.model.proofs.Tracing.{mark-read, mark-linked, mark-marks, mark-flag, MoreMarks, more-none, more-mark, more-field, pass-marks, spread-marks, more-inside, more-outside, Own, inside-all, outside-all}
 use Rattle.model.proofs.Committing.{check-true, then-true, May, none, some, Good, good-new, good-set, good-val, good-root, good, target-used, mark-word-keeps}
 use Rattle.model.proofs.Opening.{started, ready-roots, roots-marked, open-other, open-count, open-allowance, open-started, roots-keep}
 use Rattle.model.proofs.Closing.{Content, the-payload, the-field, close-phase, close-count, close-allowance, close-flag, close-state, close-freed, close-kept, close-root}
-use Rattle.model.proofs.Soundness.{sound-limits}
 use Rattle.model.proofs.SoundnessMoves.{Written, put-written, refer-written, written-read, sound-linked}
 use Rattle.model.proofs.SoundnessActs.{act-sound, act-partitions, act-slots, holds-perform}
 use Rattle.model.proofs.Counting.{count-reads}
@@ -57,27 +59,27 @@ module _ (W : Key → ℕ → Type 0) (x : Image) where
   others-put e w o μ f c = ⊎-elim (λ q. inl (subst (Some W) (q .0) e)) (λ q. ⊎-elim (λ r. inl r) (λ r. inr (q ∙ r)) (o μ f c)) (written-read w μ f c)
 
   -- x with more marks: a state that changed is a mark, and its partition is not clean
-  module _ (P S : ℕ) (shape : Shape P S) where
+  module _ (P S : ℕ) (limits : Limits P S) where
     abbrev Newly : Image → ℕ → Type 0
     Newly z j = (get z (state j) ≡ get x (state j)) ⊎ ((get z (state j) ≡ 2) × (get z (flag (partOf S j)) ≡ 0))
 
     record Marking (z : Image) : Type 0 where
-      more : MoreMarks P S shape x z
+      more : MoreMarks P S limits x z
       states : (j : ℕ) → j < P * S → Newly z j
       others : Others z
 
     marking-none : Linked P S x → Marking x
-    marking-none w = record { more = more-none P S shape x w; states = λ j l. inl refl; others = others-none }
+    marking-none w = record { more = more-none P S limits x w; states = λ j l. inl refl; others = others-none }
 
     part-small : (j : ℕ) → j < P * S → partOf S j < mostPartitions
-    part-small j l = omega (arith, parts P S (shape .some-slot) j l)
+    part-small j l = omega (arith, parts P S (limits .some-slot) j l)
 
     marking-mark : (z : Image) (t : ℕ) → t < P * S → (get x (state t) ≡ 1 → Some W (state t) × Some W (flag (partOf S t))) → Marking z → Marking (mark S z t)
     marking-mark z t l h g =
         record {
-          more = more-mark P S shape x z t l (g .more);
+          more = more-mark P S limits x z t l (g .more);
           states = λ j m. go j m (ℕ-discrete t j);
-          others = mark-keeps P S shape Others z t (λ e. let s = h (was e (g .states t l)) in others-put (s .0) (put-written (P * S) _ (state t) 2 (down .sized) l) (others-put (s .1) down (g .others))) (λ ne. g .others);
+          others = mark-keeps P S limits Others z t (λ e. let s = h (was e (g .states t l)) in others-put (s .0) (put-written (P * S) _ (state t) 2 (down .sized) l) (others-put (s .1) down (g .others))) (λ ne. g .others);
         }
       where
         down : Written (P * S) z (flag (partOf S t)) 0 (put z (flag (partOf S t)) 0)
@@ -90,10 +92,10 @@ module _ (W : Key → ℕ → Type 0) (x : Image) where
         go : (j : ℕ) → j < P * S → Dec (t ≡ j) → Newly (mark S z t) j
         go j m (yes q) =
             subst (Newly (mark S z t)) q
-            (mark-keeps P S shape (λ y. Newly y t) z t (λ e. inr (newMark-state P S shape z t l (g .more .linked .size), newMark-flag P S shape z t l (g .more .linked .size))) (λ ne. g .states t l))
+            (mark-keeps P S limits (λ y. Newly y t) z t (λ e. inr (newMark-state P S limits z t l (g .more .linked .size), newMark-flag P S limits z t l (g .more .linked .size))) (λ ne. g .states t l))
         go j m (no q) =
-            rw (mark-read P S shape z t (state j) l tt (ne-eqb t j q) refl)
-            (⊎-elim (λ s. inl s) (λ s. inr (s .0, mark-flag P S shape z t (partOf S j) l (part-small j m) (g .more .linked) (s .1))) (g .states j m))
+            rw (mark-read P S limits z t (state j) l tt (ne-eqb t j q) refl)
+            (⊎-elim (λ s. inl s) (λ s. inr (s .0, mark-flag P S limits z t (partOf S j) l (part-small j m) (g .more .linked) (s .1))) (g .states j m))
 
 -- a word of the head
 head-cases : (Q : ℕ → Type 0) → Q 0 → Q 1 → Q 2 → Q 3 → Q 4 → (h : ℕ) → h < 5 → Q h
@@ -105,8 +107,8 @@ head-cases Q a b c d e (suc (suc (suc (suc zero)))) l = e
 head-cases Q a b c d e (suc (suc (suc (suc (suc h))))) l = absurd (omega arith)
 
 module _ (P S : ℕ) (x : Image) (s : SoundAt P S x) where
-  shape : Shape P S
-  shape = sound-limits P S x s
+  limits : Limits P S
+  limits = s .limits
 
   linked : Linked P S x
   linked = sound-linked P S x s
@@ -159,7 +161,7 @@ module _ (P S : ℕ) (x : Image) (s : SoundAt P S x) where
 
   may-place : (t : Target) → May P S x t → wordOf t ≢ 0 → (q : Name) × Place t q
   may-place _ none ne = absurd (ne word-none)
-  may-place _ (some {q = q} l m u) ne = (q, record { is = refl; partition = l; slot = m; word = place-word S q (omega (arith, s .slots-most)) })
+  may-place _ (some {q = q} l m u) ne = (q, record { is = refl; partition = l; slot = m; word = place-word S q (omega (arith, s .limits .slots-most)) })
 
   object-word : (q : Name) → wordOf (Object q) ≢ 0
   unfolding wordOf
@@ -193,22 +195,22 @@ module _ (P S : ℕ) (x : Image) (s : SoundAt P S x) where
     before : Image
     before = cond (isOpen x) (markWord S x (wordOf t)) x
 
-    target-marking : Marking (Performs S x o) x P S shape before
+    target-marking : Marking (Performs S x o) x P S limits before
     unfolding before
     target-marking = go (isOpen x) refl
       where
-        bare : Marking (Performs S x o) x P S shape x
-        bare = marking-none (Performs S x o) x P S shape linked
+        bare : Marking (Performs S x o) x P S limits x
+        bare = marking-none (Performs S x o) x P S limits linked
 
-        go : (b : Bool) → isOpen x ≡ b → Marking (Performs S x o) x P S shape (cond b (markWord S x (wordOf t)) x)
+        go : (b : Bool) → isOpen x ≡ b → Marking (Performs S x o) x P S limits (cond b (markWord S x (wordOf t)) x)
         go true e =
-            mark-word-keeps P S shape (Marking (Performs S x o) x P S shape) x (wordOf t)
+            mark-word-keeps P S limits (Marking (Performs S x o) x P S limits) x (wordOf t)
             (λ ne.
             let p = may-place t may ne in
-            marking-mark (Performs S x o) x P S shape x _ (target-used P S shape x t may ne .0)
+            marking-mark (Performs S x o) x P S limits x _ (target-used P S limits x t may ne .0)
             (λ one.
             let d : StoresUnmarked S x o (p .0) = record { stores = storing-stores c (p .0) .0 (p .1 .is); opened = eqb-true _ _ e; unmarked = rw (p .1 .word) at one } in
-            rw (p .1 .word, part-of P S (shape .some-slot) _ _ (p .1 .slot)) ((2, marks-stored d), (0, uncleans-stored d)))
+            rw (p .1 .word, part-of P S (limits .some-slot) _ _ (p .1 .slot)) ((2, marks-stored d), (0, uncleans-stored d)))
             bare)
             (λ z. bare)
         go false e = bare
@@ -227,17 +229,17 @@ module _ (P S : ℕ) (x : Image) (s : SoundAt P S x) where
       target-state =
           let p = target-place in
           rw (eq-eqb _ _ (d .opened))
-          (mark-word-keeps P S shape (λ z. get z (state (place S q)) ≡ 2) x (wordOf t)
-          (λ ne. let u = target-used P S shape x t may ne in subst (λ (v : ℕ). get (mark S x (placeOf S (wordOf t))) (state v) ≡ 2) (p .word) (mark-marks P S shape x _ (u .0) linked (u .1)))
+          (mark-word-keeps P S limits (λ z. get z (state (place S q)) ≡ 2) x (wordOf t)
+          (λ ne. let u = target-used P S limits x t may ne in subst (λ (v : ℕ). get (mark S x (placeOf S (wordOf t))) (state v) ≡ 2) (p .word) (mark-marks P S limits x _ (u .0) linked (u .1)))
           (λ z. absurd (object-word q (ap wordOf (sym (p .is)) ∙ z))))
 
       target-flag : get before (flag (q .partition .0)) ≡ 0
       target-flag =
           let p = target-place in
-          let l : place S q < P * S = slot-in P S (shape .some-slot) _ _ (p .partition) (p .slot) in
+          let l : place S q < P * S = slot-in P S (limits .some-slot) _ _ (p .partition) (p .slot) in
           let two = target-state in
           let one = d .unmarked in
-          rw (part-of P S (shape .some-slot) _ _ (p .slot)) at (⊎-elim (λ e. absurd (omega arith)) (λ e. e .1) (target-marking .states (place S q) l))
+          rw (part-of P S (limits .some-slot) _ _ (p .slot)) at (⊎-elim (λ e. absurd (omega arith)) (λ e. e .1) (target-marking .states (place S q) l))
 
     store-words : Words o (store S x κ t)
     unfolding before store
@@ -248,7 +250,7 @@ module _ (P S : ℕ) (x : Image) (s : SoundAt P S x) where
               storing-only c (store S x κ t) (a .here)
               (λ q d. (
                 a .others (state (place S q)) tt (holder-state h _) ∙ target-state q d,
-                a .others (flag (q .partition .0)) (omega (arith, target-place q d .partition, shape .partitions-most)) (holder-flag h _) ∙ target-flag q d,
+                a .others (flag (q .partition .0)) (omega (arith, target-place q d .partition, limits .partitions-most)) (holder-flag h _) ∙ target-flag q d,
               )) μ v e;
           others = others-put (Performs S x o) x (wordOf t, storing-writes c) a (target-marking .others);
         }
@@ -256,9 +258,9 @@ module _ (P S : ℕ) (x : Image) (s : SoundAt P S x) where
   -- one operation
   words : (o : Operation) → Good P S x o → Words o (perform S x o)
   unfolding perform
-  words _ (good-new {n = n} {v = v} l m e) = new-words n v (slot-in P S (shape .some-slot) _ _ l m) e
-  words _ (good-set {n = n} {k = k} {t = t} l m b u d) = store-words _ _ t by-set (a-field (slot-in P S (shape .some-slot) _ _ l m) b) d
-  words _ (good-val {n = n} {v = v} l m u) = val-words n v (slot-in P S (shape .some-slot) _ _ l m)
+  words _ (good-new {n = n} {v = v} l m e) = new-words n v (slot-in P S (limits .some-slot) _ _ l m) e
+  words _ (good-set {n = n} {k = k} {t = t} l m b u d) = store-words _ _ t by-set (a-field (slot-in P S (limits .some-slot) _ _ l m) b) d
+  words _ (good-val {n = n} {v = v} l m u) = val-words n v (slot-in P S (limits .some-slot) _ _ l m)
   words _ (good-root {t = t} l d) = store-words _ _ t by-root (a-root l) d
 
   performed : (o : Operation) → Good P S x o → Performed P S x o (perform S x o)
@@ -270,26 +272,26 @@ module _ (P S : ℕ) (x : Image) (s : SoundAt P S x) where
   -- OPEN
   open-flag : (p : ℕ) → p < mostPartitions → get (openUp P S x) (flag p) ≡ 0
   open-flag p l =
-      open-other P S shape x (flag p) l refl refl ∙
-      roots-keep P S shape (λ z. Linked P S z × (get z (flag p) ≡ 0)) (λ z q. q .0) (λ z t m q. (mark-linked P S shape z t m (q .0), mark-flag P S shape z t p m l (q .0) (q .1))) _
-      (open-started P S shape x linked, unclean-flag (P * S) _ (sized-put _ _ _ _ (linked .size)) p l) .1
+      open-other P S limits x (flag p) l refl refl ∙
+      roots-keep P S limits (λ z. Linked P S z × (get z (flag p) ≡ 0)) (λ z q. q .0) (λ z t m q. (mark-linked P S limits z t m (q .0), mark-flag P S limits z t p m l (q .0) (q .1))) _
+      (open-started P S limits x linked, unclean-flag (P * S) _ (sized-put _ _ _ _ (linked .size)) p l) .1
 
   open-kept : (μ : Key) → Fits μ → ((j : ℕ) → same (state j) μ ≡ false) → ((p : ℕ) → same (flag p) μ ≡ false) → ((h : ℕ) → 2 ≤ h → same (head h) μ ≡ false) → get (openUp P S x) μ ≡ get x μ
   open-kept μ f a b c =
-      open-other P S shape x μ f (c 3 (omega arith)) (c 4 (omega arith)) ∙
-      roots-keep P S shape (MoreMarks P S shape (started P S shape x)) (λ z q. q .linked) (λ z t m q. more-mark P S shape _ z t m q) _ (more-none P S shape _ (open-started P S shape x linked)) .words μ f a b ∙
+      open-other P S limits x μ f (c 3 (omega arith)) (c 4 (omega arith)) ∙
+      roots-keep P S limits (MoreMarks P S limits (started P S limits x)) (λ z q. q .linked) (λ z t m q. more-mark P S limits _ z t m q) _ (more-none P S limits _ (open-started P S limits x linked)) .words μ f a b ∙
       unclean-other _ μ f b ∙ get-put-apart x phase 1 μ (omega arith) f (c 2 (omega arith))
 
   open-written : (κ : Key) (v : ℕ) → In (P * S) κ → Opens P S x (openUp P S x) κ v → get (openUp P S x) κ ≡ v
   unfolding unmarked
   open-written _ _ i (marks-rooted {r = r} l n) =
-      open-other P S shape x (state _) tt refl refl ∙ subst (λ (t : ℕ). get (markRoots S (started P S shape x)) (state t) ≡ 2) (n .target) (roots-marked P S shape x linked r l (n .some))
+      open-other P S limits x (state _) tt refl refl ∙ subst (λ (t : ℕ). get (markRoots S (started P S limits x)) (state t) ≡ 2) (n .target) (roots-marked P S limits x linked r l (n .some))
   open-written _ _ i (uncleans-all {p = p}) = open-flag p i
-  open-written _ _ i opens = open-other P S shape x phase (omega arith) refl refl ∙ ready-roots P S shape x linked .opened
-  open-written _ _ i restarts = open-count P S shape x linked
+  open-written _ _ i opens = open-other P S limits x phase (omega arith) refl refl ∙ ready-roots P S limits x linked .opened
+  open-written _ _ i restarts = open-count P S limits x linked
   open-written _ _ i allows =
-      open-allowance P S shape x linked ∙
-      ap (λ (n : ℕ). P + n) (tally-same (P * S) _ _ (λ j l. ap (λ (v : ℕ). eqb v 1) (sym (open-other P S shape x (state j) tt refl refl))))
+      open-allowance P S limits x linked ∙
+      ap (λ (n : ℕ). P + n) (tally-same (P * S) _ _ (λ j l. ap (λ (v : ℕ). eqb v 1) (sym (open-other P S limits x (state j) tt refl refl))))
 
   open-others : (κ : Key) → In (P * S) κ → NoCount κ → Some (Opens P S x (openUp P S x)) κ ⊎ (get (openUp P S x) κ ≡ get x κ)
   open-others (head h) i c =
@@ -299,8 +301,8 @@ module _ (P S : ℕ) (x : Image) (s : SoundAt P S x) where
   open-others (root r) i c = inr (open-kept (root r) i (λ j. refl) (λ p. refl) (λ h l. refl))
   open-others (flag p) i c = inl (0, uncleans-all)
   open-others (state j) i c =
-      let e = open-other P S shape x (state j) tt refl refl in
-      ⊎-elim (λ q. inr (e ∙ q)) (λ q. inl (2, marks-rooted (q .1 .1) (q .1 .2))) (ready-roots P S shape x linked .states j)
+      let e = open-other P S limits x (state j) tt refl refl in
+      ⊎-elim (λ q. inr (e ∙ q)) (λ q. inl (2, marks-rooted (q .1 .1) (q .1 .2))) (ready-roots P S limits x linked .states j)
   open-others (payload j) i c = inr (open-kept (payload j) tt (λ j. refl) (λ p. refl) (λ h l. refl))
   open-others (field j k) i c = inr (open-kept (field j k) (i .1) (λ j. refl) (λ p. refl) (λ h l. refl))
   open-others (inlist j) i c = absurd (clash refl c)
@@ -309,26 +311,26 @@ module _ (P S : ℕ) (x : Image) (s : SoundAt P S x) where
   module _ (p : ℕ) (inp : p < P) where
     -- while its marks are made: what is marked in p is of the least set
     record Going (z : Image) : Type 0 where
-      marking : Marking (Traces S p x) x P S shape z
+      marking : Marking (Traces S p x) x P S limits z
       within : (i : ℕ) → partOf S i ≡ p → get z (state i) ≡ 2 → Within S p x i
 
     going-mark : (z : Image) (t : ℕ) → t < P * S → (get x (state t) ≡ 1 → Some (Traces S p x) (state t) × Some (Traces S p x) (flag (partOf S t))) → (partOf S t ≡ p → Within S p x t)
         → Going z → Going (mark S z t)
-    going-mark z t l h r g = record { marking = marking-mark (Traces S p x) x P S shape z t l h (g .marking); within = λ i near two. go i near two (ℕ-discrete t i) }
+    going-mark z t l h r g = record { marking = marking-mark (Traces S p x) x P S limits z t l h (g .marking); within = λ i near two. go i near two (ℕ-discrete t i) }
       where
         go : (i : ℕ) → partOf S i ≡ p → get (mark S z t) (state i) ≡ 2 → Dec (t ≡ i) → Within S p x i
         go i near two (yes q) = subst (Within S p x) q (r (ap (partOf S) q ∙ near))
-        go i near two (no q) = g .within i near (sym (mark-read P S shape z t (state i) l tt (ne-eqb t i q) refl) ∙ two)
+        go i near two (no q) = g .within i near (sym (mark-read P S limits z t (state i) l tt (ne-eqb t i q) refl) ∙ two)
 
     renamed : (z : Image) (i k : ℕ) → Going z → k < 4 → get z (field i k) ≢ 0 → Names S x (field i k) (target S z i k)
     renamed z i k g m ne =
-        let f = more-field P S shape x z (g .marking .more) i k m in
+        let f = more-field P S limits x z (g .marking .more) i k m in
         record { some = λ q. ne (f ∙ q); target = ap (placeOf S) (sym f) }
 
     going : Going (outside S p (inside S p x))
     unfolding inside outside
     going =
-        pass-marks P S shape p inp (foreign S p) Going (λ z g. g .marking .more .linked)
+        pass-marks P S limits p inp (foreign S p) Going (λ z g. g .marking .more .linked)
         (λ z i k l m near two ne c u g.
         let far : partOf S (target S z i k) ≢ p = eqb-false _ _ (not-true _ c) in
         going-mark z _ u
@@ -336,37 +338,37 @@ module _ (P S : ℕ) (x : Image) (s : SoundAt P S x) where
         let b : Beyond S p x (target S z i k) = record { holder = i; k = k; within = g .within i near two; small = m; names = renamed z i k g m ne; far = far; unmarked = one } in
         ((2, marks-beyond b), (0, uncleans-beyond b)))
         (λ e. absurd (far e)) g) _
-        (spread-marks P S shape p inp (own S p) Going (λ z g. g .marking .more .linked)
+        (spread-marks P S limits p inp (own S p) Going (λ z g. g .marking .more .linked)
         (λ z i k l m near two ne c u g.
         let here : partOf S (target S z i k) ≡ p = eqb-true _ _ c in
         let w : Within S p x (target S z i k) = step (g .within i near two) (k, m, renamed z i k g m ne, here) in
         going-mark z _ u (λ one. ((2, marks-within w), (1, rw here cleans))) (λ e. w) g) x
-        (record { marking = marking-none (Traces S p x) x P S shape linked; within = λ i near two. start (near, two) }))
+        (record { marking = marking-none (Traces S p x) x P S limits linked; within = λ i near two. start (near, two) }))
 
     within-part : {i : ℕ} → Within S p x i → partOf S i ≡ p
     within-part (start h) = h .0
     within-part (step r e) = e .3
 
-    within-reach : {i : ℕ} → Within S p x i → Reach (λ v. marked x v ≡ true) (Own P S shape p inp x) i
+    within-reach : {i : ℕ} → Within S p x i → Reach (λ v. marked x v ≡ true) (Own P S limits p inp x) i
     unfolding Own
     within-reach (start h) = start (eq-eqb _ _ (h .1))
     within-reach (step r e) = step (within-reach r) (e .0, e .1, within-part r, e .3, e .2)
 
     within-marked : {i : ℕ} → Within S p x i → get (inside S p x) (state i) ≡ 2
-    within-marked {i} w = eqb-true _ _ (inside-all P S shape p inp x linked i (within-reach w))
+    within-marked {i} w = eqb-true _ _ (inside-all P S limits p inp x linked i (within-reach w))
 
     module _ {j : ℕ} (b : Beyond S p x j) where
       beyond-in : j < P * S
       beyond-in =
-          let h = slot-of P S (shape .some-slot) _ p (within-part (b .within)) in
-          let l : b .holder < P * S = rw (h .2) at (slot-in P S (shape .some-slot) p (h .0) inp (h .1)) in
+          let h = slot-of P S (limits .some-slot) _ p (within-part (b .within)) in
+          let l : b .holder < P * S = rw (h .2) at (slot-in P S (limits .some-slot) p (h .0) inp (h .1)) in
           rw (b .names .target) at (linked .refs (field (b .holder) (b .k)) (a-field l (b .small)) (b .names .some) .0)
 
       beyond-marked : get (outside S p (inside S p x)) (state j) ≡ 2
       beyond-marked =
-          let g = more-inside P S shape p inp x linked in
-          let f = more-field P S shape x _ g (b .holder) (b .k) (b .small) in
-          outside-all P S shape p inp (inside S p x) (g .linked) j
+          let g = more-inside P S limits p inp x linked in
+          let f = more-field P S limits x _ g (b .holder) (b .k) (b .small) in
+          outside-all P S limits p inp (inside S p x) (g .linked) j
           (record {
             holder = b .holder;
             k = b .k;
@@ -382,7 +384,7 @@ module _ (P S : ℕ) (x : Image) (s : SoundAt P S x) where
 
     -- p becomes clean, and the count rises
     done : Written (P * S) (outside S p (inside S p x)) (flag p) 1 (put (outside S p (inside S p x)) (flag p) 1)
-    done = put-written (P * S) _ (flag p) 1 (going .marking .more .linked .size) (omega (arith, shape .partitions-most))
+    done = put-written (P * S) _ (flag p) 1 (going .marking .more .linked .size) (omega (arith, limits .partitions-most))
 
     ended : Written (P * S) (put (outside S p (inside S p x)) (flag p) 1) count (get (outside S p (inside S p x)) count + 1) (traceOne S p x)
     unfolding traceOne finish
@@ -390,7 +392,7 @@ module _ (P S : ℕ) (x : Image) (s : SoundAt P S x) where
 
     trace-written : (κ : Key) (v : ℕ) → In (P * S) κ → Traces S p x κ v → get (traceOne S p x) κ ≡ v
     trace-written _ _ i (marks-within {j = j} w) =
-        ended .others (state j) tt refl ∙ done .others (state j) tt refl ∙ more-outside P S shape p inp _ (more-inside P S shape p inp x linked .linked) .stay j (within-marked w)
+        ended .others (state j) tt refl ∙ done .others (state j) tt refl ∙ more-outside P S limits p inp _ (more-inside P S limits p inp x linked .linked) .stay j (within-marked w)
     trace-written _ _ i (marks-beyond {j = j} b) = ended .others (state j) tt refl ∙ done .others (state j) tt refl ∙ beyond-marked b
     trace-written _ _ i (uncleans-beyond {j = j} b) =
         ended .others (flag (partOf S j)) i refl ∙ done .others (flag (partOf S j)) i (ne-eqb p (partOf S j) (λ e. b .far (sym e))) ∙ beyond-flag b
@@ -402,27 +404,27 @@ module _ (P S : ℕ) (x : Image) (s : SoundAt P S x) where
 
   -- CLOSE
   close-written : (κ : Key) (v : ℕ) → In (P * S) κ → Closes x κ v → get (closeUp P S x) κ ≡ v
-  close-written _ _ i (frees {j = j} e) = let c = close-state P S shape x linked j i in omega arith
-  close-written _ _ i (frees-payload e) = close-freed P S shape x linked the-payload i e
-  close-written _ _ i (frees-field e) = close-freed P S shape x linked (the-field (i .1)) (i .0) e
-  close-written _ _ i (unmarks {j = j} e) = let c = close-state P S shape x linked j i in omega arith
+  close-written _ _ i (frees {j = j} e) = let c = close-state P S limits x linked j i in omega arith
+  close-written _ _ i (frees-payload e) = close-freed P S limits x linked the-payload i e
+  close-written _ _ i (frees-field e) = close-freed P S limits x linked (the-field (i .1)) (i .0) e
+  close-written _ _ i (unmarks {j = j} e) = let c = close-state P S limits x linked j i in omega arith
   close-written _ _ i (shuts {h = h} l) =
-      head-cases (λ h. 2 ≤ h → get (closeUp P S x) (head h) ≡ 0) (λ l. absurd (omega arith)) (λ l. absurd (omega arith)) (λ l. close-phase P S shape x linked) (λ l. close-count P S shape x linked)
-      (λ l. close-allowance P S shape x linked) h i l
-  close-written _ _ i (flags-down {p = p}) = close-flag P S shape x linked p i
+      head-cases (λ h. 2 ≤ h → get (closeUp P S x) (head h) ≡ 0) (λ l. absurd (omega arith)) (λ l. absurd (omega arith)) (λ l. close-phase P S limits x linked) (λ l. close-count P S limits x linked)
+      (λ l. close-allowance P S limits x linked) h i l
+  close-written _ _ i (flags-down {p = p}) = close-flag P S limits x linked p i
 
   close-content : {j : ℕ} {μ : Key} → Content j μ → j < P * S → (get x (state j) ≡ 1 → Closes x μ 0) → Some (Closes x) μ ⊎ (get (closeUp P S x) μ ≡ get x μ)
-  close-content {j} c l h = ⊎-elim (λ e. inl (0, h e)) (λ e. inr (close-kept P S shape x linked c l e)) (eq-or-ne (get x (state j)) 1)
+  close-content {j} c l h = ⊎-elim (λ e. inl (0, h e)) (λ e. inr (close-kept P S limits x linked c l e)) (eq-or-ne (get x (state j)) 1)
 
-  close-others : judge P S x closing ≡ Accepted → (κ : Key) → In (P * S) κ → NoCount κ → Some (Closes x) κ ⊎ (get (closeUp P S x) κ ≡ get x κ)
+  close-others : judge P S x (single Close) ≡ Accepted → (κ : Key) → In (P * S) κ → NoCount κ → Some (Closes x) κ ⊎ (get (closeUp P S x) κ ≡ get x κ)
   unfolding apply
   close-others a (head h) i c =
-      head-cases (λ h. Some (Closes x) (head h) ⊎ (get (closeUp P S x) (head h) ≡ get x (head h))) (inr (act-partitions P S x closing s a)) (inr (act-slots P S x closing s a))
+      head-cases (λ h. Some (Closes x) (head h) ⊎ (get (closeUp P S x) (head h) ≡ get x (head h))) (inr (act-partitions P S x (single Close) s a)) (inr (act-slots P S x (single Close) s a))
       (inl (0, shuts (omega arith))) (inl (0, shuts (omega arith))) (inl (0, shuts (omega arith))) h i
-  close-others a (root r) i c = inr (close-root P S shape x linked r i)
+  close-others a (root r) i c = inr (close-root P S limits x linked r i)
   close-others a (flag p) i c = inl (0, flags-down)
   close-others a (state j) i c =
-      let c = close-state P S shape x linked j i in
+      let c = close-state P S limits x linked j i in
       let b = linked .states j i in
       ⊎-elim (λ e. inl (0, frees e)) (λ e. ⊎-elim (λ d. inl (1, unmarks d)) (λ d. inr (omega arith)) (eq-or-ne (get x (state j)) 2)) (eq-or-ne (get x (state j)) 1)
   close-others a (payload j) i c = close-content the-payload i frees-payload
@@ -431,7 +433,7 @@ module _ (P S : ℕ) (x : Image) (s : SoundAt P S x) where
 
   close-number : unmarked (P * S) x ≡ freed (P * S) x (closeUp P S x)
   unfolding unmarked freed
-  close-number = tally-same (P * S) _ _ (λ j l. by (get x (state j)) (get (closeUp P S x) (state j)) (linked .states j l) (close-state P S shape x linked j l))
+  close-number = tally-same (P * S) _ _ (λ j l. by (get x (state j)) (get (closeUp P S x) (state j)) (linked .states j l) (close-state P S limits x linked j l))
     where
       by : (a b : ℕ) → a ≤ 2 → b ≡ a - 1 → eqb a 1 ≡ both (not (eqb a 0)) (not (not (eqb b 0)))
       by zero b l e = refl
@@ -454,22 +456,22 @@ act-length P S x a s j = act-sound P S x a s j .length-agrees ∙ sym (s .length
 pub effect : (P S : ℕ) (x : Image) (a : Act) → SoundAt P S x → judge P S x a ≡ Accepted → Effect P S a x (apply P S x a)
 unfolding judge apply
 effect P S x (commit os) s j = committed P S x 1 os s (check-true _ _ _ _ j .1)
-effect P S x opening s j =
-    record { written = open-written P S x s; others = open-others P S x s; right = act-sound P S x opening s j .right; length = act-length P S x opening s j }
-effect P S x (trace p) s j =
-    let l = traced-is P S (shape P S x s) x p j .1 in
+effect P S x (single Open) s j =
+    record { written = open-written P S x s; others = open-others P S x s; right = act-sound P S x (single Open) s j .right; length = act-length P S x (single Open) s j }
+effect P S x (single (Trace p)) s j =
+    let l = traced-is P S (limits P S x s) x p j .1 in
     record {
-      written = trace-written P S x s p l;
-      others = λ κ i c. trace-others P S x s p l κ (in-fits (P * S) κ i) c;
-      right = act-sound P S x (trace p) s j .right;
-      length = act-length P S x (trace p) s j;
+      written = trace-written P S x s (p .0) l;
+      others = λ κ i c. trace-others P S x s (p .0) l κ (in-fits (P * S) κ i) c;
+      right = act-sound P S x (single (Trace p)) s j .right;
+      length = act-length P S x (single (Trace p)) s j;
     }
-effect P S x closing s j =
+effect P S x (single Close) s j =
     record {
-      words = record { written = close-written P S x s; others = close-others P S x s j; right = act-sound P S x closing s j .right; length = act-length P S x closing s j };
+      words = record { written = close-written P S x s; others = close-others P S x s j; right = act-sound P S x (single Close) s j .right; length = act-length P S x (single Close) s j };
       number = close-number P S x s;
     }
-effect P S x (local p) s j = localized P S p (ltb-true p P (check-true _ _ _ _ j .0)) x s
+effect P S x (single (Local p)) s j = localized P S (p .0) (ltb-true (p .0) P (check-true _ _ _ _ j .0)) x s
 
 -- NO SECOND IMAGE: x alone says every word of y
 leaves-agree : (n S : ℕ) (x : Image) (W U : Key → ℕ → Type 0) (y z : Image) → Leaves n S x W y → Leaves n S x U z
@@ -523,7 +525,7 @@ module _ (P S : ℕ) where
 
   pub effect-once : (x y z : Image) (a : Act) → lengthOf x ≡ size P S → Effect P S a x y → Effect P S a x z → y ≡ z
   effect-once x y z (commit os) e g h = committed-once e g h
-  effect-once x y z opening e g h = opened-once x y z e g h
-  effect-once x y z (trace p) e g h = leaves-once x _ _ y z e (λ κ v w. w) (λ κ v w. w) g h
-  effect-once x y z closing e g h = leaves-once x _ _ y z e (λ κ v w. w) (λ κ v w. w) (g .words) (h .words)
-  effect-once x y z (local p) e g h = leaves-once x _ _ y z e (λ κ v w. w) (λ κ v w. w) (g .words) (h .words)
+  effect-once x y z (single Open) e g h = opened-once x y z e g h
+  effect-once x y z (single (Trace p)) e g h = leaves-once x _ _ y z e (λ κ v w. w) (λ κ v w. w) g h
+  effect-once x y z (single Close) e g h = leaves-once x _ _ y z e (λ κ v w. w) (λ κ v w. w) (g .words) (h .words)
+  effect-once x y z (single (Local p)) e g h = leaves-once x _ _ y z e (λ κ v w. w) (λ κ v w. w) (g .words) (h .words)

@@ -12,13 +12,14 @@ use Rattle.loops.specs.Loop.{each}
 use Rattle.loops.proofs.Tests.{clash}
 use Rattle.loops.proofs.Loops.{each-keeps}
 use Rattle.kinds.specs.Names.{mostPartitions}
-use Rattle.model.specs.Image.{Image, Key, head, root, flag, state, payload, field, phase, count, allowance, anchors, get, put, placeOf, partOf, Holder, a-root, a-field}
+use Rattle.model.specs.Image.{Image, Key, head, root, flag, state, payload, field, count, allowance, anchors, get, put, placeOf, partOf, Holder, a-root, a-field}
 use Rattle.model.specs.Acts.{notClean, unmarked, clear, freeBut}
 use Rattle.model.specs.Chains.{Names}
-use Rattle.model.specs.Sound.{NamesUsed, Right, SoundAt}
+use Rattle.model.specs.Sound.{Limits, NamesUsed, Right, SoundAt}
 use Rattle.model.proofs.Keys.{Sized, get-put-apart, count-put, count-other, release-apart, length-sized}
-use Rattle.model.proofs.Places.{Shape, parts}
-use Rattle.model.proofs.Moves.{Linked, Live, Budget, Phase, budget-same, budget-reads}
+use Rattle.model.proofs.Places.{parts}
+use Rattle.model.proofs.Moves.{Linked}
+use Rattle.model.proofs.Phase.{Live, Budget, Phase, budget-same, budget-reads}
 use Rattle.model.proofs.Closing.{Content, the-payload, the-field, Away, away-state, away-content, clear-other, clear-size, clear-state, clear-content}
 
 -- the words of slot i that a freeing takes
@@ -120,15 +121,15 @@ module _ (P S m : ℕ) (at : ℕ → ℕ) (stay : ℕ → Bool) where
     pub fields : (i k t : ℕ) → i < P * S → k < 4 → NotFreed i → Names S x (field i k) t → NotFreed t
 
 -- a slot cleared: the count of unmarked objects does not rise
-module _ (P S : ℕ) (shape : Shape P S) where
+module _ (P S : ℕ) (limits : Limits P S) where
   budget-clear : (x : Image) (i : ℕ) → i < P * S → Sized (P * S) x → Budget P S x → Budget P S (clear S x i)
   unfolding clear notClean unmarked
   budget-clear x i l z b =
       each-keeps (Budget P S) 4 _
       (λ y k m w.
-      budget-reads P S shape y _ (λ j lj. release-apart S y (field i k) (state j) m tt refl) (λ p lp. release-apart S y (field i k) (flag p) m (omega arith) refl)
+      budget-reads P S limits y _ (λ j lj. release-apart S y (field i k) (state j) m tt refl) (λ p lp. release-apart S y (field i k) (flag p) m (omega arith) refl)
       (release-apart S y (field i k) count m (omega arith) refl) (release-apart S y (field i k) allowance m (omega arith) refl) w) _
-      (budget-same P S shape (put x (state i) 0) (payload i) 0 l (λ j. refl) (λ j. refl) refl refl
+      (budget-same P S limits (put x (state i) 0) (payload i) 0 l (λ j. refl) (λ j. refl) refl refl
       (record {
         within =
             let u₁ = count-put (P * S) x state 1 (P * S) (λ j m. m) i 0 l z (λ j ne. ne-eqb i j ne) in
@@ -196,7 +197,7 @@ module _ (P S : ℕ) (shape : Shape P S) where
       live-before κ (a-root l) v = tt
       live-before κ (a-field {j = i} l lk) v =
           let s = stayed i (λ q. let two = v .0 in omega arith) in
-          (sym (free-same i _ of-state s) ∙ v .0, λ z. let q = parts P S (shape .some-slot) i l in v .1 (free-flag (partOf S i) (omega arith) ∙ z))
+          (sym (free-same i _ of-state s) ∙ v .0, λ z. let q = parts P S (limits .some-slot) i l in v .1 (free-flag (partOf S i) (omega arith) ∙ z))
 
       pub free-phase : Phase P S x → Phase P S y
       unfolding freeBut
@@ -221,10 +222,7 @@ module _ (P S : ℕ) (shape : Shape P S) where
       pub free-sound : SoundAt P S x → Right (P * S) S y → SoundAt P S y
       free-sound s right =
           record {
-            some-partition = s .some-partition;
-            partitions-most = s .partitions-most;
-            some-slot = s .some-slot;
-            slots-most = s .slots-most;
+            limits = s .limits;
             length-agrees = length-sized P S y free-size;
             phase-bit = rw (free-head 2 (omega arith)) (s .phase-bit);
             states = λ i l. state-cases (λ v. v ≤ 2) i (s .states i l) (omega arith);

@@ -2,19 +2,20 @@
 -- alone opens `refer` and `release`, and SoundnessActs `get` at one place, but for Answers, whose rows compute and open everything.
 -- Assumes nothing.
 use Prim.Native.Nat.{ℕ, zero, suc, _+_, _*_, _-_, _/_, _%_, _≤_, _<_}
-use mathlib.Core.Path.{_≡_, refl, sym, ap, _∙_}
+use mathlib.Core.Path.{_≡_, refl, sym, ap, subst, _∙_}
 use mathlib.Core.Bool.{Bool, true, false, cond}
 use mathlib.Core.List.{_∷_}
 use mathlib.Core.Logic.{_≢_, ⊎-elim}
 use native.Mathlib.Omega.{arith}
-use lib.ListN.{getD, length, replicate, length-set, length-replicate}
+use lib.ListN.{getD, replicate, length-set, length-replicate}
 use lib.Seq.{getD-set-same, getD-set-other, set-comm, ext-getD}
-use lib.Dec.{eqb}
-use borrow.Author.Tests.{eqb-false, eq-eqb}
+use lib.Dec.{eqb, ltb}
+use borrow.Author.Tests.{lt-ltb, le-ltb, eq-eqb, ne-eqb}
 use Rattle.loops.specs.Loop.{both, tally, bit}
 use Rattle.loops.proofs.Tests.{clash, lt-or-ge}
 use Rattle.loops.proofs.Loops.{tally-same, tally-move}
 use Rattle.model.specs.Image.{Image, Key, head, root, flag, state, payload, inlist, field, isCount, oneLess, oneMore, abroad, lose, gain, recount, placeOf, anchors, front, stride, addr, get, put, lengthOf, size, blank, refer, release}
+unfoldable pub use Rattle.model.specs.Image.{Has, Sized}
 pub use Rattle.model.specs.Effects.{In}
 
 -- a key whose address is no other key's
@@ -26,10 +27,6 @@ Fits (state j) = Unit {0}
 Fits (payload j) = Unit {0}
 Fits (inlist j) = Unit {0}
 Fits (field j k) = k < 4
-
--- an image of n places
-unfoldable pub Sized : ℕ → Image → Type 0
-Sized n img = length img ≡ front + stride * n
 
 -- two keys are the same: as numbers, so that the test computes for different kinds
 abbrev pub kind : Key → ℕ
@@ -71,59 +68,43 @@ either a false = a
 abbrev pub touches : Key → Key → Bool
 touches κ μ = either (same κ μ) (cond (isCount μ) (eqb (kind κ) 5) false)
 
--- different keys have different addresses
+-- different keys have different addresses: the key of an address can be read off it
+keyIn : ℕ → ℕ → Key
+keyIn j o = cond (eqb o 0) (state j) (cond (eqb o 1) (payload j) (cond (eqb o 6) (inlist j) (field j (o - 2))))
+
+keyAt : ℕ → Key
+keyAt a = cond (ltb a 5) (head a) (cond (ltb a 21) (root (a - 5)) (cond (ltb a front) (flag (a - 21)) (keyIn ((a - front) / stride) ((a - front) % stride))))
+
+key-slot : (a j o : ℕ) → a ≡ front + stride * j + o → o < stride → keyAt a ≡ keyIn j o
+unfolding keyAt
+key-slot a j o e l =
+    let d : (a - front) / stride ≡ j = omega arith in
+    let m : (a - front) % stride ≡ o = omega arith in
+    rw (le-ltb a 5 (omega arith), le-ltb a 21 (omega arith), le-ltb a front (omega arith), d, m)
+
+key-field : (j k : ℕ) → k < 4 → keyIn j (2 + k) ≡ field j k
+unfolding keyIn
+key-field j k l =
+    let d : 2 + k - 2 ≡ k = omega arith in
+    rw (ne-eqb (2 + k) 0 (λ e. omega arith), ne-eqb (2 + k) 1 (λ e. omega arith), ne-eqb (2 + k) 6 (λ e. omega arith), d)
+
+at-key : (κ : Key) → Fits κ → keyAt (addr κ) ≡ κ
+unfolding addr keyAt keyIn
+at-key (head h) v = rw (lt-ltb h 5 v)
+at-key (root r) v = let d : 5 + r - 5 ≡ r = omega arith in rw (le-ltb (5 + r) 5 (omega arith), lt-ltb (5 + r) 21 (omega arith), d)
+at-key (flag p) v = let d : 21 + p - 21 ≡ p = omega arith in rw (le-ltb (21 + p) 5 (omega arith), le-ltb (21 + p) 21 (omega arith), lt-ltb (21 + p) front (omega arith), d)
+at-key (state j) v = key-slot (front + stride * j) j 0 (omega arith) (omega arith)
+at-key (payload j) v = key-slot (front + stride * j + 1) j 1 (omega arith) (omega arith)
+at-key (field j k) v = key-slot (front + stride * j + 2 + k) j (2 + k) (omega arith) (omega arith) ∙ key-field j k v
+at-key (inlist j) v = key-slot (front + stride * j + 6) j 6 (omega arith) (omega arith)
+
+same-self : (κ : Key) → same κ κ ≡ true
+same-self κ = rw (eq-eqb (kind κ) (kind κ) refl, eq-eqb (minor κ) (minor κ) refl, eq-eqb (major κ) (major κ) refl)
+
 apart : (κ μ : Key) → Fits κ → Fits μ → same κ μ ≡ false → addr κ ≡ addr μ → ⊥
-unfolding addr
-apart (head a) (head b) v w e q = eqb-false a b e (omega arith)
-apart (head a) (root b) v w e q = absurd (omega arith)
-apart (head a) (flag b) v w e q = absurd (omega arith)
-apart (head a) (state b) v w e q = absurd (omega arith)
-apart (head a) (payload b) v w e q = absurd (omega arith)
-apart (head a) (field b d) v w e q = absurd (omega arith)
-apart (root a) (head b) v w e q = absurd (omega arith)
-apart (root a) (root b) v w e q = eqb-false a b e (omega arith)
-apart (root a) (flag b) v w e q = absurd (omega arith)
-apart (root a) (state b) v w e q = absurd (omega arith)
-apart (root a) (payload b) v w e q = absurd (omega arith)
-apart (root a) (field b d) v w e q = absurd (omega arith)
-apart (flag a) (head b) v w e q = absurd (omega arith)
-apart (flag a) (root b) v w e q = absurd (omega arith)
-apart (flag a) (flag b) v w e q = eqb-false a b e (omega arith)
-apart (flag a) (state b) v w e q = absurd (omega arith)
-apart (flag a) (payload b) v w e q = absurd (omega arith)
-apart (flag a) (field b d) v w e q = absurd (omega arith)
-apart (state a) (head b) v w e q = absurd (omega arith)
-apart (state a) (root b) v w e q = absurd (omega arith)
-apart (state a) (flag b) v w e q = absurd (omega arith)
-apart (state a) (state b) v w e q = eqb-false a b e (omega arith)
-apart (state a) (payload b) v w e q = absurd (omega arith)
-apart (state a) (field b d) v w e q = absurd (omega arith)
-apart (payload a) (head b) v w e q = absurd (omega arith)
-apart (payload a) (root b) v w e q = absurd (omega arith)
-apart (payload a) (flag b) v w e q = absurd (omega arith)
-apart (payload a) (state b) v w e q = absurd (omega arith)
-apart (payload a) (payload b) v w e q = eqb-false a b e (omega arith)
-apart (payload a) (field b d) v w e q = absurd (omega arith)
-apart (field a c) (head b) v w e q = absurd (omega arith)
-apart (field a c) (root b) v w e q = absurd (omega arith)
-apart (field a c) (flag b) v w e q = absurd (omega arith)
-apart (field a c) (state b) v w e q = absurd (omega arith)
-apart (field a c) (payload b) v w e q = absurd (omega arith)
-apart (head a) (inlist b) v w e q = absurd (omega arith)
-apart (root a) (inlist b) v w e q = absurd (omega arith)
-apart (flag a) (inlist b) v w e q = absurd (omega arith)
-apart (state a) (inlist b) v w e q = absurd (omega arith)
-apart (payload a) (inlist b) v w e q = absurd (omega arith)
-apart (field a c) (inlist b) v w e q = absurd (omega arith)
-apart (inlist a) (head b) v w e q = absurd (omega arith)
-apart (inlist a) (root b) v w e q = absurd (omega arith)
-apart (inlist a) (flag b) v w e q = absurd (omega arith)
-apart (inlist a) (state b) v w e q = absurd (omega arith)
-apart (inlist a) (payload b) v w e q = absurd (omega arith)
-apart (inlist a) (field b d) v w e q = absurd (omega arith)
-apart (inlist a) (inlist b) v w e q = eqb-false a b e (omega arith)
-apart (field a c) (field b d) v w e q =
-    let x : eqb a b ≡ true = eq-eqb a b (omega arith) in let y : eqb c d ≡ true = eq-eqb c d (omega arith) in clash {b = both (eqb c d) (eqb a b)} (rw (x, y)) e
+apart κ μ v w e q =
+    let is : κ ≡ μ = sym (at-key κ v) ∙ ap keyAt q ∙ at-key μ w in
+    clash (same-self κ) (subst (λ (ν : Key). same κ ν ≡ false) (sym is) e)
 
 pub in-fits : (n : ℕ) (κ : Key) → In n κ → Fits κ
 in-fits n (head h) v = v
@@ -144,6 +125,15 @@ module _ (n : ℕ) where
   addr-in (payload i) v = omega arith
   addr-in (inlist i) v = omega arith
   addr-in (field i k) v = omega arith
+
+-- an image of n places has their words, whatever is put into it
+pub has : (n : ℕ) (img : Image) → Sized n img → (κ : Key) → In n κ → Has img κ
+unfolding Sized Has
+has n img z κ i = omega (arith, addr-in n κ i)
+
+pub has-put : (img : Image) (μ : Key) (v : ℕ) (κ : Key) → Has img κ → Has (put img μ v) κ
+unfolding Has put
+has-put img μ v κ h = omega (arith, length-set img (addr μ) v)
 
 pub get-put-apart : (img : Image) (κ : Key) (v : ℕ) (μ : Key) → Fits κ → Fits μ → same κ μ ≡ false → get (put img κ v) μ ≡ get img μ
 unfolding put get

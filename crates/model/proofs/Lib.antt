@@ -3,7 +3,9 @@ pub mod Places
 pub mod Spreading
 pub mod Adding
 pub mod Walking
+pub mod Holders
 pub mod Moves
+pub mod Phase
 pub mod Tracing
 pub mod Committing
 pub mod Opening
@@ -30,5 +32,6 @@ pub mod Splitting
 pub mod Progress
 pub mod Quiet
 pub mod Demand
+pub mod Computing
 pub mod Answers
 pub mod Effects

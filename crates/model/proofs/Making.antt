@@ -10,14 +10,17 @@ use Rattle.loops.proofs.Loops.{each-keeps}
 use Rattle.kinds.specs.Names.{mostPartitions, wordOf}
 use Rattle.kinds.specs.declared.Target.{Target}
 use Rattle.kinds.specs.declared.Operation.{Operation}
+use Rattle.kinds.specs.declared.Single.the-variants.{Open, Trace, Close, Local}
 use Rattle.kinds.specs.declared.Verdict.the-variants.{Accepted}
 use Rattle.model.specs.Image.{Image, Key, head, flag, state, payload, phase, count, allowance, get, put, placeOf, refer, release, Holder, a-root, a-field}
-use Rattle.model.specs.Acts.{Act, commit, opening, closing, trace, local, localBits, freeBut, localUp, isOpen, mark, markWord, store, born, perform, unclean, allow, openUp, finish, traceOne, clear, shut, closeUp, apply}
+use Rattle.model.specs.Acts.{Act, commit, single, localBits, freeBut, localUp, isOpen, mark, markWord, store, born, perform, unclean, allow, openUp, finish, traceOne, clear, shut, closeUp, apply}
 use Rattle.model.specs.Judge.{judge}
 use Rattle.model.specs.Questions.{hasBit}
+use Rattle.model.specs.Sound.{Limits}
 use Rattle.model.proofs.Keys.{Fits, same, in-fits, get-put-apart, refer-apart, release-apart}
-use Rattle.model.proofs.Places.{Shape, parts, slot-in}
-use Rattle.model.proofs.Moves.{holder-in, Linked, holder-head, mark-keeps}
+use Rattle.model.proofs.Places.{parts, slot-in}
+use Rattle.model.proofs.Holders.{holder-in, holder-head}
+use Rattle.model.proofs.Moves.{Linked, mark-keeps}
 use Rattle.model.proofs.Tracing.{mark-linked, trace-marks}
 use Rattle.model.proofs.Committing.{check-true, May, Good, good-new, good-set, good-val, good-root, commit-keeps, target-used, mark-word-keeps}
 use Rattle.model.proofs.Opening.{open-started, roots-keep}
@@ -49,14 +52,14 @@ made-heading n S x _ h l (worded {y = y} {κ = κ} v w m) = let a = word-heading
 made-heading n S x _ h l (referred {y = y} {κ = κ} w g b m) = refer-apart S y κ w (head h) (in-fits n κ (holder-in g)) (omega arith) (holder-head g h) ∙ made-heading n S x y h l m
 made-heading n S x _ h l (released {y = y} {κ = κ} g m) = release-apart S y κ (head h) (in-fits n κ (holder-in g)) (omega arith) (holder-head g h) ∙ made-heading n S x y h l m
 
-module _ (P S : ℕ) (shape : Shape P S) (x : Image) where
+module _ (P S : ℕ) (limits : Limits P S) (x : Image) where
   abbrev From : Image → Type 0
   From y = Made (P * S) S x y
 
   made-mark : (y : Image) (t : ℕ) → t < P * S → From y → From (mark S y t)
   made-mark y t l m =
-      let q = parts P S (shape .some-slot) t l in
-      mark-keeps P S shape From y t (λ e. worded _ state-word (worded _ (flag-word (omega arith)) m)) (λ ne. m)
+      let q = parts P S (limits .some-slot) t l in
+      mark-keeps P S limits From y t (λ e. worded _ state-word (worded _ (flag-word (omega arith)) m)) (λ ne. m)
 
   -- a mark of a place in range, of a linked heap
   LinkedFrom : Image → Type 0
@@ -64,20 +67,20 @@ module _ (P S : ℕ) (shape : Shape P S) (x : Image) where
 
   marked-on : (z : Image) (t : ℕ) → t < P * S → LinkedFrom z → LinkedFrom (mark S z t)
   unfolding LinkedFrom
-  marked-on z t l q = (mark-linked P S shape z t l (q .0), made-mark z t l (q .1))
+  marked-on z t l q = (mark-linked P S limits z t l (q .0), made-mark z t l (q .1))
 
   made-store : (y : Image) (κ : Key) (t : Target) → Holder (P * S) κ → May P S y t → From y → From (store S y κ t)
   unfolding store
-  made-store y κ t h m q = referred _ h (λ ne. target-used P S shape y t m ne .0) (go (isOpen y))
+  made-store y κ t h m q = referred _ h (λ ne. target-used P S limits y t m ne .0) (go (isOpen y))
     where
       go : (b : Bool) → From (cond b (markWord S y (wordOf t)) y)
-      go true = mark-word-keeps P S shape From y (wordOf t) (λ ne. made-mark y _ (target-used P S shape y t m ne .0) q) (λ e. q)
+      go true = mark-word-keeps P S limits From y (wordOf t) (λ ne. made-mark y _ (target-used P S limits y t m ne .0) q) (λ e. q)
       go false = q
 
   made-perform : (y : Image) (o : Operation) → Good P S y o → From y → From (perform S y o)
   unfolding perform born
   made-perform y _ (good-new lp ls e) q = worded _ payload-word (worded _ state-word q)
-  made-perform y _ (good-set lp ls lk u t) q = made-store y _ _ (a-field (slot-in P S (shape .some-slot) _ _ lp ls) lk) t q
+  made-perform y _ (good-set lp ls lk u t) q = made-store y _ _ (a-field (slot-in P S (limits .some-slot) _ _ lp ls) lk) t q
   made-perform y _ (good-val lp ls u) q = worded _ payload-word q
   made-perform y _ (good-root lr t) q = made-store y _ _ (a-root lr) t q
 
@@ -98,11 +101,11 @@ module _ (P S : ℕ) (shape : Shape P S) (x : Image) where
   unfolding openUp allow LinkedFrom
   made-open w =
       worded _ allowance-word (worded _ count-word
-      (roots-keep P S shape LinkedFrom (λ z q. q .0) marked-on _ (open-started P S shape x w, made-unclean _ (worded _ phase-word as-is)) .1))
+      (roots-keep P S limits LinkedFrom (λ z q. q .0) marked-on _ (open-started P S limits x w, made-unclean _ (worded _ phase-word as-is)) .1))
 
   made-trace : (p : ℕ) → p < P → Linked P S x → From (traceOne S p x)
   unfolding traceOne finish LinkedFrom
-  made-trace p l w = worded _ count-word (worded _ (flag-word {p = p} (omega arith)) (trace-marks P S shape p l LinkedFrom (λ z q. q .0) (λ z i k li lk a e u q. marked-on z _ u q) x (w, as-is) .1))
+  made-trace p l w = worded _ count-word (worded _ (flag-word {p = p} (omega arith)) (trace-marks P S limits p l LinkedFrom (λ z q. q .0) (λ z i k li lk a e u q. marked-on z _ u q) x (w, as-is) .1))
 
   made-clear : (y : Image) (i : ℕ) → i < P * S → From y → From (clear S y i)
   unfolding clear
@@ -116,7 +119,7 @@ module _ (P S : ℕ) (shape : Shape P S) (x : Image) where
 
   pub made-local : (p : ℕ) → p < P → From (localUp P S p x)
   unfolding localUp freeBut
-  made-local p l = each-keeps From S _ (λ z s ls q. stay z (p * S + s) (slot-in P S (shape .some-slot) p s l ls) q (hasBit (localBits P S p x) (p * S + s))) x as-is
+  made-local p l = each-keeps From S _ (λ z s ls q. stay z (p * S + s) (slot-in P S (limits .some-slot) p s l ls) q (hasBit (localBits P S p x) (p * S + s))) x as-is
     where
       stay : (z : Image) (i : ℕ) → i < P * S → From z → (b : Bool) → From (cond b z (clear S z i))
       stay z i li q true = q
@@ -125,7 +128,7 @@ module _ (P S : ℕ) (shape : Shape P S) (x : Image) where
   pub made : (a : Act) → judge P S x a ≡ Accepted → Linked P S x → From (apply P S x a)
   unfolding judge apply
   made (commit os) j w = commit-keeps P S From made-perform x 1 os (check-true _ _ _ _ j .1) as-is
-  made opening j w = made-open w
-  made (trace p) j w = made-trace p (ltb-true _ _ (check-true _ _ _ _ (check-true _ _ _ _ j .1) .0)) w
-  made closing j w = made-close
-  made (local p) j w = made-local p (ltb-true _ _ (check-true _ _ _ _ j .0))
+  made (single Open) j w = made-open w
+  made (single (Trace p)) j w = made-trace (p .0) (ltb-true _ _ (check-true _ _ _ _ (check-true _ _ _ _ j .1) .0)) w
+  made (single Close) j w = made-close
+  made (single (Local p)) j w = made-local (p .0) (ltb-true _ _ (check-true _ _ _ _ j .0))

@@ -9,10 +9,11 @@ use Rattle.kinds.specs.declared.Name.{Name}
 use Rattle.kinds.specs.declared.Operation.{Operation}
 use Rattle.kinds.specs.declared.Operation.the-variants.{New, Set, Val, Root}
 use Rattle.kinds.specs.declared.Refusal.{Refusal}
+use Rattle.kinds.specs.declared.Single.the-variants.{Open, Trace, Close, Local}
 use Rattle.kinds.specs.declared.Verdict.{Verdict}
 use Rattle.kinds.specs.declared.Verdict.the-variants.{Accepted, Refused}
 use Rattle.model.specs.Image.{Image}
-use Rattle.model.specs.Acts.{Act, commit, opening, closing, trace, local, perform}
+use Rattle.model.specs.Acts.{Act, commit, single, perform}
 use Rattle.model.specs.Judge.{check, andThen, judge, judgeOp, judgeOps, judgeFormat, judgeOutlist, judgeName}
 
 -- accepted, or refused with a number from lo to hi
@@ -55,16 +56,16 @@ ops-among P S x e (o ∷ os) = then-among _ _ (op-among P S x e o) (ops-among P 
 pub act-among : (P S : ℕ) (x : Image) (a : Act) → Among 6 16 (judge P S x a)
 unfolding judge
 act-among P S x (commit os) = check-among _ 6 0 _ (omega arith) (omega arith) (among-wider 6 16 _ (omega arith) (omega arith) (ops-among P S x 1 os))
-act-among P S x opening = check-among _ 11 0 _ (omega arith) (omega arith) (check-among _ 12 0 _ (omega arith) (omega arith) accepted)
-act-among P S x (trace p) =
+act-among P S x (single Open) = check-among _ 11 0 _ (omega arith) (omega arith) (check-among _ 12 0 _ (omega arith) (omega arith) accepted)
+act-among P S x (single (Trace p)) =
     check-among _ 10 0 _ (omega arith) (omega arith)
     (check-among _ 7 0 _ (omega arith) (omega arith)
     (check-among _ 13 0 _ (omega arith) (omega arith) (check-among _ 15 0 _ (omega arith) (omega arith) accepted)))
-act-among P S x closing =
+act-among P S x (single Close) =
     check-among _ 10 0 _ (omega arith) (omega arith)
     (check-among _ 12 0 _ (omega arith) (omega arith)
     (check-among _ 14 _ _ (omega arith) (omega arith) (check-among _ 16 0 _ (omega arith) (omega arith) accepted)))
-act-among P S x (local p) = check-among _ 7 0 _ (omega arith) (omega arith) (check-among _ 12 0 _ (omega arith) (omega arith) accepted)
+act-among P S x (single (Local p)) = check-among _ 7 0 _ (omega arith) (omega arith) (check-among _ 12 0 _ (omega arith) (omega arith) accepted)
 
 pub outlist-among : (P p : ℕ) → Among 7 7 (judgeOutlist P p)
 unfolding judgeOutlist

@@ -15,9 +15,12 @@ use Rattle.model.specs.Image.{Image, Key, root, flag, state, field, phas
 use Rattle.model.specs.Acts.{used, mark, markWord, unmarked, notClean, unclean, markRoots, allow, openUp}
 use Rattle.model.specs.History.{names, unrooted}
 use Rattle.model.specs.Chains.{Names}
+use Rattle.model.specs.Sound.{Limits}
 use Rattle.model.proofs.Keys.{Fits, same, in-fits, get-put-apart, sized-put, get-put-same}
-use Rattle.model.proofs.Places.{Shape, parts}
-use Rattle.model.proofs.Moves.{holder-in, Linked, a-head, state-holder, flag-holder, head-holder, unclean-other, unclean-flag, Live, Phase, up-linked, up-plain, up-unclean}
+use Rattle.model.proofs.Places.{parts}
+use Rattle.model.proofs.Holders.{holder-in, a-head, state-holder, flag-holder, head-holder}
+use Rattle.model.proofs.Moves.{Linked, unclean-other, unclean-flag, up-linked, up-plain, up-unclean}
+use Rattle.model.proofs.Phase.{Live, Phase}
 use Rattle.model.proofs.Tracing.{mark-read, mark-linked, mark-marks, mark-stays, mark-flag}
 use Rattle.model.proofs.Committing.{mark-word-keeps}
 
@@ -29,7 +32,7 @@ used-is n l ne = go (ℕ-discrete n 0)
     go (yes e) = rw e
     go (no e) = let one : n ≡ 1 = omega arith in rw one
 
-module _ (P S : ℕ) (shape : Shape P S) where
+module _ (P S : ℕ) (limits : Limits P S) where
   -- a heap between phases: nothing is marked
   pub record Shut (x : Image) : Type 0 where
     pub linked : Linked P S x
@@ -47,10 +50,10 @@ module _ (P S : ℕ) (shape : Shape P S) where
   ready-mark : (x y : Image) (r : ℕ) → r < anchors → Ready x y → get y (root r) ≢ 0 → Ready x (mark S y (placeOf S (get y (root r))))
   ready-mark x y r l g ne =
       record {
-        linked = mark-linked P S shape y t lt (g .linked);
-        opened = mark-read P S shape y t phase lt (omega arith) refl refl ∙ g .opened;
-        flags = λ p m. mark-flag P S shape y t p lt (omega arith) (g .linked) (g .flags p m);
-        holders = λ κ h. mark-read P S shape y t κ lt (in-fits (P * S) κ (holder-in h)) (state-holder h t) (flag-holder h (partOf S t)) ∙ g .holders κ h;
+        linked = mark-linked P S limits y t lt (g .linked);
+        opened = mark-read P S limits y t phase lt (omega arith) refl refl ∙ g .opened;
+        flags = λ p m. mark-flag P S limits y t p lt (omega arith) (g .linked) (g .flags p m);
+        holders = λ κ h. mark-read P S limits y t κ lt (in-fits (P * S) κ (holder-in h)) (state-holder h t) (flag-holder h (partOf S t)) ∙ g .holders κ h;
         states = λ i. go i (ℕ-discrete t i);
       }
     where
@@ -63,12 +66,12 @@ module _ (P S : ℕ) (shape : Shape P S) where
       go : (i : ℕ) → Dec (t ≡ i) → (get (mark S y t) (state i) ≡ get x (state i)) ⊎ ((get (mark S y t) (state i) ≡ 2) × ((r : ℕ) × (r < anchors) × Names S x (root r) i))
       go i (yes q) =
           let h = g .holders (root r) (a-root l) in
-          let two = mark-marks P S shape y t lt (g .linked) (g .linked .refs (root r) (a-root l) ne .1) in
+          let two = mark-marks P S limits y t lt (g .linked) (g .linked .refs (root r) (a-root l) ne .1) in
           inr (subst (λ (v : ℕ). get (mark S y t) (state v) ≡ 2) q two, (r, l, record { some = λ n. ne (h ∙ n); target = ap (placeOf S) (sym h) ∙ q }))
-      go i (no q) = rw (mark-read P S shape y t (state i) lt tt (ne-eqb t i q) refl) (g .states i)
+      go i (no q) = rw (mark-read P S limits y t (state i) lt tt (ne-eqb t i q) refl) (g .states i)
 
   ready-root : (x y : Image) (r : ℕ) → r < anchors → Ready x y → Ready x (markWord S y (get y (root r)))
-  ready-root x y r l g = mark-word-keeps P S shape (Ready x) y (get y (root r)) (λ ne. ready-mark x y r l g ne) (λ e. g)
+  ready-root x y r l g = mark-word-keeps P S limits (Ready x) y (get y (root r)) (λ ne. ready-mark x y r l g ne) (λ e. g)
 
   abbrev pub started : Image → Image
   started x = unclean (put x phase 1)
@@ -78,7 +81,7 @@ module _ (P S : ℕ) (shape : Shape P S) where
       let z = w .size in
       let zp = sized-put (P * S) x phase 1 z in
       record {
-        linked = up-linked P S shape _ _ (up-unclean P S shape _ zp) (up-linked P S shape x _ (up-plain P S shape x phase 1 (a-head (omega arith)) z) w);
+        linked = up-linked P S limits _ _ (up-unclean P S limits _ zp) (up-linked P S limits x _ (up-plain P S limits x phase 1 (a-head (omega arith)) z) w);
         opened = unclean-other _ phase (omega arith) (λ p. refl) ∙ get-put-same (P * S) x phase 1 z (omega arith);
         flags = λ p l. unclean-flag (P * S) _ zp p (omega arith);
         holders = λ κ h. let f = in-fits (P * S) κ (holder-in h) in unclean-other _ κ f (λ p. flag-holder h p) ∙ get-put-apart x phase 1 κ (omega arith) f (head-holder h 2);
@@ -99,8 +102,8 @@ module _ (P S : ℕ) (shape : Shape P S) where
       each-reaches (λ y. Ready x y × (get y (state (placeOf S (get x (root r)))) ≡ 2)) _ _ (started x) r l
       (λ y c m g. (
         ready-root x y c m (g .0),
-        mark-word-keeps P S shape (λ z. get z (state (placeOf S (get x (root r)))) ≡ 2) y (get y (root c))
-            (λ q. mark-stays P S shape y _ _ (g .0 .linked .refs (root c) (a-root m) q .0) (g .0 .linked) (g .1)) (λ e. g .1),
+        mark-word-keeps P S limits (λ z. get z (state (placeOf S (get x (root r)))) ≡ 2) y (get y (root c))
+            (λ q. mark-stays P S limits y _ _ (g .0 .linked .refs (root c) (a-root m) q .0) (g .0 .linked) (g .1)) (λ e. g .1),
       ))
       (let g = each-keeps (Ready x) r (λ y c. markWord S y (get y (root c))) (λ y c m w. ready-root x y c (omega arith) w) _ (ready x w) in
       (ready-root x _ r l g, made _ g))
@@ -109,8 +112,8 @@ module _ (P S : ℕ) (shape : Shape P S) where
       made : (y : Image) → Ready x y → get (markWord S y (get y (root r))) (state (placeOf S (get x (root r)))) ≡ 2
       made y g =
           let h = g .holders (root r) (a-root l) in
-          mark-word-keeps P S shape (λ z. get z (state (placeOf S (get x (root r)))) ≡ 2) y (get y (root r))
-          (λ q. let u = g .linked .refs (root r) (a-root l) q in rw (← h) (mark-marks P S shape y _ (u .0) (g .linked) (u .1))) (λ e. absurd (ne (sym h ∙ e)))
+          mark-word-keeps P S limits (λ z. get z (state (placeOf S (get x (root r)))) ≡ 2) y (get y (root r))
+          (λ q. let u = g .linked .refs (root r) (a-root l) q in rw (← h) (mark-marks P S limits y _ (u .0) (g .linked) (u .1))) (λ e. absurd (ne (sym h ∙ e)))
 
   -- the last two words
   allow-other : (a : Image) (μ : Key) → Fits μ → same count μ ≡ false → same allowance μ ≡ false → get (allow P S a) μ ≡ get a μ
@@ -136,8 +139,8 @@ module _ (P S : ℕ) (shape : Shape P S) where
   unfolding openUp allow
   open-linked x w =
       let g = ready-roots x w in
-      let b = up-linked P S shape _ _ (up-plain P S shape _ count 0 (a-head (omega arith)) (g .linked .size)) (g .linked) in
-      up-linked P S shape _ _ (up-plain P S shape _ allowance _ (a-head (omega arith)) (b .size)) b
+      let b = up-linked P S limits _ _ (up-plain P S limits _ count 0 (a-head (omega arith)) (g .linked .size)) (g .linked) in
+      up-linked P S limits _ _ (up-plain P S limits _ allowance _ (a-head (omega arith)) (b .size)) b
 
   pub phase-open : (x : Image) → Linked P S x → Phase P S (openUp P S x)
   unfolding notClean unmarked
@@ -171,7 +174,7 @@ module _ (P S : ℕ) (shape : Shape P S) where
           let e : get y (root r) ≡ get x (root r) = open-other x (root r) l refl refl ∙ g .holders (root r) (a-root l) in
           rw e (open-other x (state _) tt refl refl ∙ roots-marked x w r l (λ q. ne (e ∙ q)))
       leads κ (a-field {j = i} {k = k} l m) v ne =
-          let q = parts P S (shape .some-slot) i l in
+          let q = parts P S (limits .some-slot) i l in
           absurd (v .1 (open-other x (flag (partOf S i)) (omega arith) refl refl ∙ g .flags (partOf S i) q))
 
   -- the allowance is P + W
@@ -216,4 +219,4 @@ module _ (P S : ℕ) (shape : Shape P S) where
   unfolding markRoots
   roots-keep Q linked h x q =
       each-keeps Q anchors _
-      (λ y r l w. mark-word-keeps P S shape Q y (get y (root r)) (λ ne. h y _ (linked y w .refs (root r) (a-root l) ne .0) w) (λ e. w)) x q
+      (λ y r l w. mark-word-keeps P S limits Q y (get y (root r)) (λ ne. h y _ (linked y w .refs (root r) (a-root l) ne .0) w) (λ e. w)) x q

@@ -59,16 +59,16 @@ name-word S w n l = rw (digits-div ((w - 1) / radix) l, digits-mod ((w - 1) / ra
 
 module _ (P S p : ℕ) (inp : p < P) (x : Image) (s : SoundAt P S x) where
   slot-small : (k : ℕ) → k < S → p * S + k < P * S
-  slot-small k l = slot-in P S (s .some-slot) p k inp l
+  slot-small k l = slot-in P S (s .limits .some-slot) p k inp l
 
   refs : (j k : ℕ) → j < P * S → k < 4 → get x (field j k) ≢ 0 → placeOf S (get x (field j k)) < P * S
   refs j k l m n = reference-place P S x (field j k) (a-field l m) n s
 
   places : P * S ≤ mostPlaces
-  places = mul-le-mul {n₁ = P} {m₁ = S} {n₂ = mostPartitions} {m₂ = mostSlots} (s .partitions-most) (s .slots-most)
+  places = mul-le-mul {n₁ = P} {m₁ = S} {n₂ = mostPartitions} {m₂ = mostSlots} (s .limits .partitions-most) (s .limits .slots-most)
 
   few-out : tally mostPlaces (hasBit (outBits S p x)) ≤ 256
-  few-out = omega (arith, out-tally S p x .1, s .slots-most)
+  few-out = omega (arith, out-tally S p x .1, s .limits .slots-most)
 
   -- a word that leads from p abroad is a name outside p
   abroad-is : (j v : ℕ) → partOf S j ≡ p → abroad S j v ≡ true → (v ≢ 0) × (partOf S (placeOf S v) ≢ p)
@@ -82,7 +82,7 @@ module _ (P S p : ℕ) (inp : p < P) (x : Image) (s : SoundAt P S x) where
   abroad-so j v o n far = rw (ne-eqb v 0 n, o, ne-eqb p (partOf S (placeOf S v)) (λ q. far (sym q)))
 
   own-slot : (f : ℕ) → f < 4 * S → partOf S (p * S + f / 4) ≡ p
-  own-slot f l = part-of P S (s .some-slot) p (f / 4) (omega arith)
+  own-slot f l = part-of P S (s .limits .some-slot) p (f / 4) (omega arith)
 
   -- what is marked, by fields
   marked-out : (i : ℕ) → hasBit (outBits S p x) i ≡ true → (j : ℕ) × (k : ℕ) × HoldsOut S p x j k (nameAt S i)
@@ -112,10 +112,10 @@ module _ (P S p : ℕ) (inp : p < P) (x : Image) (s : SoundAt P S x) where
   out-marked : (j k v : ℕ) → HoldsOut S p x j k v → (placeOf S v < P * S) × (hasBit (outBits S p x) (placeOf S v) ≡ true) × (nameAt S (placeOf S v) ≡ v)
   unfolding outBits goesOut goesTo
   out-marked j k v h =
-      let q = slot-of P S (s .some-slot) j p (h .own) in
+      let q = slot-of P S (s .limits .some-slot) j p (h .own) in
       let d : (4 * q .0 + k) / 4 ≡ q .0 = omega (arith, h .number) in
       let r : (4 * q .0 + k) % 4 ≡ k = omega (arith, h .number) in
-      let l : j < P * S = rw (← q .2) (slot-in P S (s .some-slot) p (q .0) inp (q .1)) in
+      let l : j < P * S = rw (← q .2) (slot-in P S (s .limits .some-slot) p (q .0) inp (q .1)) in
       let u = s .references (field j k) (a-field l (h .number)) (λ z. h .some (sym (h .word) ∙ z)) in
       let inn : placeOf S v < P * S = rw (h .word) at (refs j k l (h .number) (λ z. h .some (sym (h .word) ∙ z))) in
       let e : wordOut S p x (4 * q .0 + k) ≡ v = rw (d, r, q .2) (h .word) in
@@ -133,7 +133,7 @@ module _ (P S p : ℕ) (inp : p < P) (x : Image) (s : SoundAt P S x) where
   pub outlisted : Outlisted S p x (outlist P S p x)
   unfolding outlist
   outlisted =
-      let r : Listed S (outBits S p x) (P * S) (listNames (P * S) S (outBits S p x)) = listed S (s .some-slot) (s .slots-most) (outBits S p x) few-out (P * S) places in
+      let r : Listed S (outBits S p x) (P * S) (listNames (P * S) S (outBits S p x)) = listed S (s .limits .some-slot) (s .limits .slots-most) (outBits S p x) few-out (P * S) places in
       record {
         long = r .long;
         few = omega (arith, r .counted, tally-rises (hasBit (outBits S p x)) (P * S) mostPlaces places, out-tally S p x .1);

@@ -4,17 +4,10 @@ use Prim.Native.Nat.{ℕ, _+_, _*_, _-_, _/_, _%_, _≤_, _<_}
 use mathlib.Core.Path.{_≡_, refl, _∙_}
 use native.Mathlib.Omega.{arith}
 use native.Mathlib.Nat.{div-lt-iff-lt-mul, mul-add-div-right, div-eq-of-lt, div-add-mod', mod-lt, mul-le-mul-right, add-zero}
-use Rattle.kinds.specs.Names.{mostPartitions, mostSlots, radix, wordOf}
+use Rattle.kinds.specs.Names.{radix, wordOf}
 use Rattle.kinds.specs.declared.Name.{Name}
 use Rattle.kinds.specs.declared.Target.the-variants.{Nothing, Object}
 use Rattle.model.specs.Image.{place, placeOf, partOf}
-
--- the limits of P partitions of S slots
-pub record Shape (P S : ℕ) : Type 0 where
-  pub some-partition : 0 < P
-  pub partitions-most : P ≤ mostPartitions
-  pub some-slot : 0 < S
-  pub slots-most : S ≤ mostSlots
 
 module _ (P S : ℕ) (some-slot : 0 < S) where
   pub parts : (j : ℕ) → j < P * S → partOf S j < P

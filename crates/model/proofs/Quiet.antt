@@ -9,17 +9,14 @@ use lib.ListN.{length}
 use Rattle.kinds.specs.declared.Operation.{Operation}
 use Rattle.model.specs.Image.{Image}
 use Rattle.model.specs.Spread.{start, step}
-use Rattle.model.specs.Acts.{Act, commit, opening, closing, trace, local}
-use Rattle.model.specs.Chains.{Leads, Step, op, opens, closes, traced, localized, steps, Above, bare, more, Since, last, before, Chain, from-root, created, stored-field, stored-root, along-held, along-stored, toOpening, ChainTo}
+use Rattle.model.specs.Acts.{Act, commit, single}
+use Rattle.model.specs.Chains.{Leads, Step, op, did, steps, Above, bare, more, Since, last, before, Chain, from-root, created, stored-field, stored-root, along-held, along-stored, toOpening, ChainTo}
 
 -- a history without commits
 abbrev pub Quiet : List Act → Type 0
 Quiet [] = Unit {0}
 Quiet (commit os ∷ acts) = ⊥
-Quiet (opening ∷ acts) = Quiet acts
-Quiet (trace p ∷ acts) = Quiet acts
-Quiet (closing ∷ acts) = Quiet acts
-Quiet (local p ∷ acts) = Quiet acts
+Quiet (single a ∷ acts) = Quiet acts
 
 -- what was taken since the opening stands above it
 above-length : {base h : List Step} → Above base h → length base ≤ length h
@@ -39,10 +36,7 @@ no-op : (base : List Step) (acts : List Act) → Quiet acts → (o : Operation) 
 unfolding steps
 no-op base [] q o e s = let l = since-length s in omega arith
 no-op base (commit os ∷ acts) q o e s = q
-no-op base (opening ∷ acts) q o e s = ⊎-elim (λ d. let z : _≡_ {A = ℕ} 0 1 = cc in absurd (omega arith)) (no-op base acts q o e) (since-cases s opens (steps acts base) refl)
-no-op base (trace p ∷ acts) q o e s = ⊎-elim (λ d. let z : _≡_ {A = ℕ} 0 1 = cc in absurd (omega arith)) (no-op base acts q o e) (since-cases s (traced p) (steps acts base) refl)
-no-op base (closing ∷ acts) q o e s = ⊎-elim (λ d. let z : _≡_ {A = ℕ} 0 1 = cc in absurd (omega arith)) (no-op base acts q o e) (since-cases s closes (steps acts base) refl)
-no-op base (local p ∷ acts) q o e s = ⊎-elim (λ d. let z : _≡_ {A = ℕ} 0 1 = cc in absurd (omega arith)) (no-op base acts q o e) (since-cases s (localized p) (steps acts base) refl)
+no-op base (single a ∷ acts) q o e s = ⊎-elim (λ d. let z : _≡_ {A = ℕ} 0 1 = cc in absurd (omega arith)) (no-op base acts q o e) (since-cases s (did a) (steps acts base) refl)
 
 held : (S : ℕ) (x : Image) (base : List Step) (Taken : Step → List Step → Type 0) (i b : ℕ) → ((o : Operation) (e : List Step) → Taken (op o) e → ⊥) → Chain S x base Taken i b → Leads S x i
 held S x base Taken i b never (from-root {r = r} l n) = start (r, l, n)

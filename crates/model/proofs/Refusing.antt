@@ -15,13 +15,16 @@ use Rattle.loops.proofs.Loops.{tally-zero, tally-some, every-so}
 use Rattle.kinds.specs.Answers.{refuse}
 use Rattle.kinds.specs.declared.Operation.{Operation}
 use Rattle.kinds.specs.declared.Operation.the-variants.{New, Set, Val, Root}
+use Rattle.kinds.specs.declared.Partition.{Partition}
+use Rattle.kinds.specs.declared.Single.the-variants.{Open, Trace, Close, Local}
 use Rattle.kinds.specs.declared.Verdict.{Verdict}
 use Rattle.kinds.specs.declared.Verdict.the-variants.{Accepted, Refused}
 use Rattle.model.specs.Image.{Image, Key, root, flag, state, field, count, allowance, anchors, get, placeOf, partOf, a-root, a-field}
-use Rattle.model.specs.Acts.{Act, commit, opening, closing, trace, local, marked, isOpen, perform, notClean}
+use Rattle.model.specs.Acts.{Act, commit, single, marked, isOpen, perform, notClean}
 use Rattle.model.specs.Judge.{check, andThen, judgeOp, judgeOps, rooted, leadsOn, led, judge}
-use Rattle.model.proofs.Places.{Shape, parts}
-use Rattle.model.proofs.Moves.{Phase, open-true}
+use Rattle.model.specs.Sound.{Limits}
+use Rattle.model.proofs.Places.{parts}
+use Rattle.model.proofs.Phase.{Phase, open-true}
 use Rattle.model.proofs.Reaching.{Heap, is-open}
 
 -- an answer other than 15 and 16
@@ -68,7 +71,7 @@ leads-on S x κ h = go (ℕ-discrete (get x κ) 0)
 
 -- with no root in use
 module _ (P S : ℕ) (x : Image) (e : rooted x ≡ false) where
-  pub rootless-opening : judge P S x opening ≡ cond (isOpen x) (refuse 11 0) (refuse 12 0)
+  pub rootless-opening : judge P S x (single Open) ≡ cond (isOpen x) (refuse 11 0) (refuse 12 0)
   unfolding judge check
   rootless-opening = rw e (go (isOpen x))
     where
@@ -76,7 +79,7 @@ module _ (P S : ℕ) (x : Image) (e : rooted x ≡ false) where
       go true = refl
       go false = refl
 
-  pub rootless-closing : judge P S x closing ≡ cond (isOpen x) (refuse 12 0) (refuse 10 0)
+  pub rootless-closing : judge P S x (single Close) ≡ cond (isOpen x) (refuse 12 0) (refuse 10 0)
   unfolding judge check
   rootless-closing = rw e (go (isOpen x))
     where
@@ -84,7 +87,7 @@ module _ (P S : ℕ) (x : Image) (e : rooted x ≡ false) where
       go true = refl
       go false = refl
 
-module _ (P S : ℕ) (shape : Shape P S) where
+module _ (P S : ℕ) (limits : Limits P S) where
   -- in a phase the count is below the allowance while a partition is not clean
   room : (x : Image) (p : ℕ) → Phase P S x → p < P → get x (flag p) ≡ 0 → not (eqb (get x count) (get x allowance)) ≡ true
   unfolding notClean
@@ -103,32 +106,32 @@ module _ (P S : ℕ) (shape : Shape P S) where
       go : (i : ℕ) → i < P * S → (b : Bool) → marked x i ≡ b → cond b (every 4 (λ k. leadsOn S x (field i k))) true ≡ true
       go i l true e =
           every-so 4 _
-          (λ k m. leads-on S x (field i k) (λ ne. ph .clean .leads (field i k) (a-field l m) (eqb-true _ _ e, all-clean P x all (partOf S i) (parts P S (shape .some-slot) i l)) ne))
+          (λ k m. leads-on S x (field i k) (λ ne. ph .clean .leads (field i k) (a-field l m) (eqb-true _ _ e, all-clean P x all (partOf S i) (parts P S (limits .some-slot) i l)) ne))
       go i l false e = refl
 
   -- any partition that is not clean can be traced
-  pub can-trace : (x : Image) (p : ℕ) → Phase P S x → p < P → get x (flag p) ≡ 0 → judge P S x (trace p) ≡ Accepted
+  pub can-trace : (x : Image) (p : Partition) → Phase P S x → p .0 < P → get x (flag (p .0)) ≡ 0 → judge P S x (single (Trace p)) ≡ Accepted
   unfolding judge check
-  can-trace x p ph l f = rw (open-true P S shape x ph, lt-ltb p P l, f, room x p ph l f)
+  can-trace x p ph l f = rw (open-true P S limits x ph, lt-ltb (p .0) P l, f, room x (p .0) ph l f)
 
   -- and when all are clean and a root is in use, the phase can close
-  pub can-close : (x : Image) → Phase P S x → notClean P x ≡ 0 → rooted x ≡ true → judge P S x closing ≡ Accepted
+  pub can-close : (x : Image) → Phase P S x → notClean P x ≡ 0 → rooted x ≡ true → judge P S x (single Close) ≡ Accepted
   unfolding judge check
-  can-close x ph all r = rw (open-true P S shape x ph, r, all, marks-lead x ph all)
+  can-close x ph all r = rw (open-true P S limits x ph, r, all, marks-lead x ph all)
 
-  mild : (x : Image) → Heap P S shape x → (a : Act) → Mild (judge P S x a)
+  mild : (x : Image) → Heap P S limits x → (a : Act) → Mild (judge P S x a)
   unfolding judge Mild
   mild x h (commit os) = check-mild _ 6 0 _ (omega arith) (λ a. ops-mild P S x 1 os)
-  mild x h opening = check-mild _ 11 0 _ (omega arith) (λ a. check-mild _ 12 0 _ (omega arith) (λ b. tt))
-  mild x h (trace p) =
+  mild x h (single Open) = check-mild _ 11 0 _ (omega arith) (λ a. check-mild _ 12 0 _ (omega arith) (λ b. tt))
+  mild x h (single (Trace p)) =
       check-mild _ 10 0 _ (omega arith)
-      (λ a. check-mild _ 7 0 _ (omega arith) (λ l. check-mild _ 13 0 _ (omega arith) (λ f. pass-mild _ 15 0 (room x p (is-open P S shape x h a) (ltb-true _ _ l) (eqb-true _ _ f)))))
-  mild x h closing =
+      (λ a. check-mild _ 7 0 _ (omega arith) (λ l. check-mild _ 13 0 _ (omega arith) (λ f. pass-mild _ 15 0 (room x (p .0) (is-open P S limits x h a) (ltb-true _ _ l) (eqb-true _ _ f)))))
+  mild x h (single Close) =
       check-mild _ 10 0 _ (omega arith)
-      (λ a. check-mild _ 12 0 _ (omega arith) (λ l. check-mild _ 14 _ _ (omega arith) (λ f. pass-mild _ 16 0 (marks-lead x (is-open P S shape x h a) (eqb-true _ _ f)))))
-  mild x h (local p) = check-mild _ 7 0 _ (omega arith) (λ a. check-mild _ 12 0 _ (omega arith) (λ b. tt))
+      (λ a. check-mild _ 12 0 _ (omega arith) (λ l. check-mild _ 14 _ _ (omega arith) (λ f. pass-mild _ 16 0 (marks-lead x (is-open P S limits x h a) (eqb-true _ _ f)))))
+  mild x h (single (Local p)) = check-mild _ 7 0 _ (omega arith) (λ a. check-mild _ 12 0 _ (omega arith) (λ b. tt))
 
   -- 15 and 16 never come
-  pub never-15-16 : (x : Image) → Heap P S shape x → (a : Act) (e : ℕ) → (judge P S x a ≢ refuse 15 e) × (judge P S x a ≢ refuse 16 e)
+  pub never-15-16 : (x : Image) → Heap P S limits x → (a : Act) (e : ℕ) → (judge P S x a ≢ refuse 15 e) × (judge P S x a ≢ refuse 16 e)
   unfolding Mild
   never-15-16 x h a e = let m = mild x h a in (λ q. subst Mild q m .0 refl, λ q. subst Mild q m .1 refl)

@@ -14,8 +14,7 @@ use Rattle.kinds.specs.Names.{radix, mostPartitions, mostSlots}
 use Rattle.model.specs.Image.{Image, Key, root, flag, state, payload, field, partitions, slots, phase, count, allowance, anchors, get, lengthOf, size, placeOf, Holder, a-root, a-field}
 use Rattle.model.specs.Acts.{used, marked, isOpen}
 use Rattle.model.specs.Judge.{inLimits}
-use Rattle.model.proofs.Places.{Shape}
-use Rattle.model.specs.Sound.{inRange, refOk, freeOk, slotOk, countOk, Right, rootOk, flagOk, flagDown, unmarkedAt, openOk, shutOk, soundAt, isSound, NamesUsed, Free, ShutHead, OpenHead, SoundAt, Sound}
+use Rattle.model.specs.Sound.{Limits, inRange, refOk, freeOk, slotOk, countOk, Right, rootOk, flagOk, flagDown, unmarkedAt, openOk, shutOk, soundAt, isSound, NamesUsed, Free, ShutHead, OpenHead, SoundAt, Sound}
 
 -- what a test of the form "this, or else that" tells, and how it passes
 cond-true : (a b : Bool) → cond a true b ≡ true → a ≡ false → b ≡ true
@@ -24,10 +23,6 @@ cond-true a b e f = rw f at e
 cond-so : (a b : Bool) → (a ≡ false → b ≡ true) → cond a true b ≡ true
 cond-so true b h = refl
 cond-so false b h = h refl
-
--- P is 1 to 16, S is 1 to 64
-abbrev pub Limits : ℕ → ℕ → Type 0
-Limits P S = Shape P S
 
 module _ (P S : ℕ) where
   pub limits-true : inLimits P S ≡ true → Limits P S
@@ -272,12 +267,8 @@ module _ (P S : ℕ) (x : Image) where
       let c = both-true (every (P * S) (countOk S (P * S) x)) _ (f .1) in
       let g = both-true (every anchors (rootOk P S x)) _ (c .1) in
       let h = both-true (every mostPartitions (flagOk P x)) phaseOk (g .1) in
-      let lim = limits-true P S (a .0) in
       record {
-        some-partition = lim .some-partition;
-        partitions-most = lim .partitions-most;
-        some-slot = lim .some-slot;
-        slots-most = lim .slots-most;
+        limits = limits-true P S (a .0);
         length-agrees = eqb-true (lengthOf x) (size P S) (b .0);
         phase-bit = leb-true (get x phase) 1 (d .0);
         states = λ j l. slot-true j (every-true (P * S) (slotOk P S x) (f .0) j l) .known;
@@ -301,20 +292,11 @@ module _ (P S : ℕ) (x : Image) where
   pub sound-flag : SoundAt P S x → (p : ℕ) → p < mostPartitions → FlagOk P x p
   sound-flag h p l = record { low = h .flag-bits p l; beyond = h .flags-beyond p l }
 
-  pub sound-limits : SoundAt P S x → Limits P S
-  sound-limits h =
-      record {
-        some-partition = h .some-partition;
-        partitions-most = h .partitions-most;
-        some-slot = h .some-slot;
-        slots-most = h .slots-most;
-      }
-
   pub sound-at-back : SoundAt P S x → soundAt P S x ≡ true
   unfolding soundAt phaseOk
   sound-at-back h =
       rw (
-        limits-back P S (sound-limits h),
+        limits-back P S (h .limits),
         eq-eqb (lengthOf x) (size P S) (h .length-agrees),
         le-leb (get x phase) 1 (h .phase-bit),
         every-so (P * S) (slotOk P S x) (λ j l. slot-back j (sound-slot h j l)),

@@ -17,14 +17,15 @@ use Rattle.kinds.specs.declared.Name.{Name}
 use Rattle.kinds.specs.declared.Target.{Target}
 use Rattle.kinds.specs.declared.Target.the-variants.{Object}
 use Rattle.kinds.specs.declared.Operation.{Operation}
+use Rattle.kinds.specs.declared.Single.the-variants.{Open, Trace, Close, Local}
 use Rattle.kinds.specs.declared.Verdict.the-variants.{Accepted}
 use Rattle.model.specs.Image.{Image, Key, addr, blank, partitions, slots, head, root, flag, state, payload, inlist, field, phase, count, allowance, anchors, get, put, place, placeOf, Holder, a-root, a-field}
-use Rattle.model.specs.Acts.{Act, commit, opening, closing, trace, local, localBits, localUp, marked, closeUp, refers, target, own, foreign, mark, markWord, perform, unmarked, unclean, markRoots, allow, openUp, inside, outside, finish, traceOne, apply}
+use Rattle.model.specs.Acts.{Act, commit, single, localBits, localUp, marked, closeUp, refers, target, own, foreign, mark, markWord, perform, unmarked, unclean, markRoots, allow, openUp, inside, outside, finish, traceOne, apply}
 use Rattle.model.specs.Judge.{inLimits, led, judge}
 use Rattle.model.specs.History.{Run, still, acted}
-use Rattle.model.specs.Sound.{isSound, Sound, NamesUsed, Right, ShutHead, SoundAt}
+use Rattle.model.specs.Sound.{Limits, isSound, Sound, NamesUsed, Right, ShutHead, SoundAt}
 use Rattle.model.proofs.Keys.{Sized, sized-length, get-put-apart, get-put-same, sized-put, zeros, blank-sized, blank-partitions, blank-slots, blank-zero}
-use Rattle.model.proofs.Places.{Shape, slot-in, word-none, place-word}
+use Rattle.model.proofs.Places.{slot-in, word-none, place-word}
 use Rattle.model.proofs.Spreading.{pass-keeps, spread-keeps}
 use Rattle.model.proofs.Moves.{Linked}
 use Rattle.model.proofs.Tracing.{refers-is}
@@ -35,7 +36,7 @@ use Rattle.model.proofs.Counting.{right-put, right-made, right-blank}
 use Rattle.model.specs.Questions.{hasBit}
 use Rattle.model.proofs.Freeing.{Apart, free-sound}
 use Rattle.model.proofs.Localizing.{choice, local-roots, local-fields}
-use Rattle.model.proofs.Soundness.{limits-true, sound-limits, sound-true, sound-back, sound-not}
+use Rattle.model.proofs.Soundness.{limits-true, sound-true, sound-back, sound-not}
 use Rattle.model.proofs.SoundnessMoves.{WordUsed, Body, Head, Holds, sound-of, sound-linked, sound-body, put-written, holds-self, holds-more, open-head, head-written, holds-flag, holds-mark, holds-mark-word, holds-payload, holds-store, holds-born, reference-place}
 
 -- the numbers of a name's word
@@ -56,15 +57,15 @@ module _ (P S : ℕ) where
   target-word : (x : Image) (t : Target) → SoundAt P S x → May P S x t → wordOf t ≢ 0 → WordUsed P S x (wordOf t)
   target-word x _ s none n = absurd (n word-none)
   target-word x _ s (some {q = q} l m u) n =
-      let b : q .slot .0 < radix = omega (arith, s .slots-most) in
+      let b : q .slot .0 < radix = omega (arith, s .limits .slots-most) in
       record { partition = rw (word-partition q b) l; slot = rw (word-slot q b) m; in-use = rw (place-word S q b) u }
 
   pub holds-perform : (x : Image) (o : Operation) → Good P S x o → SoundAt P S x → Holds P S x (perform S x o)
   unfolding perform
-  holds-perform x _ (good-new l m e) s = holds-born P S x _ _ (slot-in P S (s .some-slot) _ _ l m) s
+  holds-perform x _ (good-new l m e) s = holds-born P S x _ _ (slot-in P S (s .limits .some-slot) _ _ l m) s
   holds-perform x _ (good-set {n = n} {k = k} {t = t} l m b u d) s =
-      holds-store P S x (field (place S n) k) t (a-field (slot-in P S (s .some-slot) _ _ l m) b) u (target-word x t s d) s
-  holds-perform x _ (good-val l m u) s = holds-payload P S x _ _ (slot-in P S (s .some-slot) _ _ l m) u s
+      holds-store P S x (field (place S n) k) t (a-field (slot-in P S (s .limits .some-slot) _ _ l m) b) u (target-word x t s d) s
+  holds-perform x _ (good-val l m u) s = holds-payload P S x _ _ (slot-in P S (s .limits .some-slot) _ _ l m) u s
   holds-perform x _ (good-root {r = r} {t = t} l d) s = holds-store P S x (root r) t (a-root l) tt (target-word x t s d) s
 
   -- OPEN: every step keeps soundness, the phase being open with count and allowance 0 at first
@@ -119,7 +120,7 @@ module _ (P S : ℕ) where
     step : (wanted : ℕ → Bool) (y : Image) (j k : ℕ) → j < S → k < 4 → refers S wanted y (p * S + j) k ≡ true → Holds P S x y
         → Holds P S x (mark S y (target S y (p * S + j) k))
     step wanted y j k lj lk e h =
-        let at : p * S + j < P * S = slot-in P S (h .sound .some-slot) p j l lj in
+        let at : p * S + j < P * S = slot-in P S (h .sound .limits .some-slot) p j l lj in
         let n : get y (field (p * S + j) k) ≢ 0 = refers-is S wanted y (p * S + j) k e .0 in
         holds-more P S h
         (holds-mark P S y (target S y (p * S + j) k) (reference-place P S y (field (p * S + j) k) (a-field at lk) n (h .sound)) (h .heads 2 (omega arith) ∙ o) (h .sound))
@@ -140,7 +141,7 @@ module _ (P S : ℕ) where
   pub finish-sound : (x : Image) (p : ℕ) → p < P → get x phase ≡ 1 → get x count < get x allowance → SoundAt P S x → SoundAt P S (finish p x)
   unfolding finish
   finish-sound x p l o c s =
-      let b : P ≤ mostPartitions = s .partitions-most in
+      let b : P ≤ mostPartitions = s .limits .partitions-most in
       let y : Image = put x (flag p) 1 in
       let h : Holds P S x y = holds-flag P S x p 1 (omega arith) (omega arith) (λ q. absurd (omega arith)) (λ q. absurd (omega arith)) s in
       let w : ℕ = get x count + 1 in
@@ -165,15 +166,15 @@ module _ (P S : ℕ) where
     after : Image
     after = closeUp P S x
 
-    shape : Shape P S
-    shape = sound-limits P S x s
+    limits : Limits P S
+    limits = s .limits
 
     linked : Linked P S x
     linked = sound-linked P S x s
 
     closed-state : (j : ℕ) → j < P * S → get after (state j) ≡ get x (state j) - 1
     unfolding after
-    closed-state j l = close-state P S shape x linked j l
+    closed-state j l = close-state P S limits x linked j l
 
     -- a word of an object that was not freed is as it was, and freed it is 0
     closed-word : {j : ℕ} {μ : Key} → Content j μ → j < P * S → get after μ ≢ 0 → (get after μ ≡ get x μ) × (get x (state j) ≢ 1)
@@ -181,16 +182,16 @@ module _ (P S : ℕ) where
     closed-word {j} {μ} c l n = go (ℕ-discrete (get x (state j)) 1)
       where
         go : Dec (get x (state j) ≡ 1) → (get after μ ≡ get x μ) × (get x (state j) ≢ 1)
-        go (yes e) = absurd (n (close-freed P S shape x linked c l e))
-        go (no e) = (close-kept P S shape x linked c l e, e)
+        go (yes e) = absurd (n (close-freed P S limits x linked c l e))
+        go (no e) = (close-kept P S limits x linked c l e, e)
 
     closed-content : {j : ℕ} {μ : Key} → Content j μ → j < P * S → get after (state j) ≡ 0 → (get x (state j) ≡ 0 → get x μ ≡ 0) → get after μ ≡ 0
     unfolding after
     closed-content {j} {μ} c l e free = go (ℕ-discrete (get x (state j)) 1)
       where
         go : Dec (get x (state j) ≡ 1) → get after μ ≡ 0
-        go (yes q) = close-freed P S shape x linked c l q
-        go (no q) = let d = closed-state j l in close-kept P S shape x linked c l q ∙ free (omega arith)
+        go (yes q) = close-freed P S limits x linked c l q
+        go (no q) = let d = closed-state j l in close-kept P S limits x linked c l q ∙ free (omega arith)
 
     closed-names : (κ : Key) (h : Holder (P * S) κ) → Leading (P * S) x κ h → get after κ ≡ get x κ → get after κ ≢ 0 → NamesUsed P S after κ
     closed-names κ h v e n =
@@ -203,7 +204,7 @@ module _ (P S : ℕ) where
 
     closed-references : (κ : Key) → Holder (P * S) κ → get after κ ≢ 0 → NamesUsed P S after κ
     unfolding after
-    closed-references _ (a-root {r = r} l) n = closed-names (root r) (a-root l) tt (close-root P S shape x linked r l) n
+    closed-references _ (a-root {r = r} l) n = closed-names (root r) (a-root l) tt (close-root P S limits x linked r l) n
     closed-references _ (a-field {j = j} {k = k} l m) n =
         let w = closed-word (the-field m) l n in
         let b = s .states j l in
@@ -214,7 +215,7 @@ module _ (P S : ℕ) where
     unfolding after
     closed-body =
         record {
-          sized = close-size P S shape x linked;
+          sized = close-size P S limits x linked;
           states = λ j l. let e = closed-state j l in let b = s .states j l in omega arith;
           free-slots = λ j l e.
               record {
@@ -222,22 +223,22 @@ module _ (P S : ℕ) where
                 fields = λ k m. closed-content (the-field m) l e (λ q. s .free-slots j l q .fields k m);
               };
           references = closed-references;
-          right = right-made (P * S) S (made-close P S shape x) (sized-length P S x (s .length-agrees)) (s .right);
-          flag-bits = λ p l. let e = close-flag P S shape x linked p l in omega arith;
-          flags-beyond = λ p l m. close-flag P S shape x linked p l;
+          right = right-made (P * S) S (made-close P S limits x) (sized-length P S x (s .length-agrees)) (s .right);
+          flag-bits = λ p l. let e = close-flag P S limits x linked p l in omega arith;
+          flags-beyond = λ p l m. close-flag P S limits x linked p l;
         }
 
     closed-head : Head P S after
     unfolding after
     closed-head =
-        let e : get (closeUp P S x) phase ≡ 0 = close-phase P S shape x linked in
+        let e : get (closeUp P S x) phase ≡ 0 = close-phase P S limits x linked in
         record {
           phase-bit = omega arith;
           shut = λ q.
               record {
-                counted = close-count P S shape x linked;
-                allowed = close-allowance P S shape x linked;
-                flags = close-flag P S shape x linked;
+                counted = close-count P S limits x linked;
+                allowed = close-allowance P S limits x linked;
+                flags = close-flag P S limits x linked;
                 unmarked = λ j l t. let c = closed-state j l in let b = s .states j l in omega arith;
               };
           opened = λ q. absurd (omega arith);
@@ -245,7 +246,7 @@ module _ (P S : ℕ) where
 
     pub close-sound : SoundAt P S (closeUp P S x)
     unfolding after
-    close-sound = sound-of P S after shape closed-body closed-head
+    close-sound = sound-of P S after limits closed-body closed-head
 
   -- LOCAL: with right counts, roots and what stays refer to what stays
   module _ (x : Image) (s : SoundAt P S x) (p : ℕ) (l : p < P) where
@@ -253,50 +254,50 @@ module _ (P S : ℕ) where
     refs κ h n = reference-place P S x κ h n s
 
     pub local-in : (j : ℕ) → j < S → p * S + j < P * S
-    local-in j lj = slot-in P S (s .some-slot) p j l lj
+    local-in j lj = slot-in P S (s .limits .some-slot) p j l lj
 
     pub local-apart : Apart P S S (λ j. p * S + j) (hasBit (localBits P S p x)) x
     local-apart =
         record {
-          choice = choice P S (s .some-slot) p l x refs;
-          roots = local-roots P S (s .some-slot) p l x refs (s .right);
-          fields = local-fields P S (s .some-slot) p l x refs (s .right);
+          choice = choice P S (s .limits .some-slot) p l x refs;
+          roots = local-roots P S (s .limits .some-slot) p l x refs (s .right);
+          fields = local-fields P S (s .limits .some-slot) p l x refs (s .right);
         }
 
     pub local-sound : SoundAt P S (localUp P S p x)
     unfolding localUp
     local-sound =
         let z = sized-length P S x (s .length-agrees) in
-        free-sound P S (sound-limits P S x s) S (λ j. p * S + j) (hasBit (localBits P S p x)) local-in x z local-apart s local-right
+        free-sound P S (s .limits) S (λ j. p * S + j) (hasBit (localBits P S p x)) local-in x z local-apart s local-right
       where
         local-right : Right (P * S) S (localUp P S p x)
-        local-right = right-made (P * S) S (made-local P S (sound-limits P S x s) x p l) (sized-length P S x (s .length-agrees)) (s .right)
+        local-right = right-made (P * S) S (made-local P S (s .limits) x p l) (sized-length P S x (s .length-agrees)) (s .right)
 
   -- EVERY ACT
   pub act-sound : (x : Image) (a : Act) → SoundAt P S x → judge P S x a ≡ Accepted → SoundAt P S (apply P S x a)
   unfolding judge apply
   act-sound x (commit os) s j =
       commit-keeps P S (SoundAt P S) (λ y o g t. holds-perform y o g t .sound) x 1 os (check-true _ _ _ _ j .1) s
-  act-sound x opening s j =
+  act-sound x (single Open) s j =
       let n : get x phase ≢ 1 = eqb-false (get x phase) 1 (not-true _ (check-true _ _ _ _ j .0)) in
       let b = s .phase-bit in
       open-sound x (omega arith) s
-  act-sound x (trace p) s j =
+  act-sound x (single (Trace p)) s j =
       let a = check-true _ _ _ _ j in
       let b = check-true _ _ _ _ (a .1) in
       let c = check-true _ _ _ _ (b .1) in
       let d = check-true _ _ _ _ (c .1) in
-      trace-sound x p (ltb-true p P (b .0)) (eqb-true (get x phase) 1 (a .0)) (eqb-false (get x count) (get x allowance) (not-true _ (d .0))) s
-  act-sound x closing s j =
+      trace-sound x (p .0) (ltb-true (p .0) P (b .0)) (eqb-true (get x phase) 1 (a .0)) (eqb-false (get x count) (get x allowance) (not-true _ (d .0))) s
+  act-sound x (single Close) s j =
       let a = check-true _ _ _ _ j in
       let b = check-true _ _ _ _ (a .1) in
       let c = check-true _ _ _ _ (b .1) in
       close-sound x s (check-true _ _ _ _ (c .1) .0)
-  act-sound x (local p) s j = local-sound x s p (ltb-true p P (check-true _ _ _ _ j .0))
+  act-sound x (single (Local p)) s j = local-sound x s (p .0) (ltb-true (p .0) P (check-true _ _ _ _ j .0))
 
   -- words 0 and 1 stay
   act-words : (x : Image) (a : Act) (h : ℕ) → h < 2 → SoundAt P S x → judge P S x a ≡ Accepted → get (apply P S x a) (head h) ≡ get x (head h)
-  act-words x a h l s j = made-heading (P * S) S x (apply P S x a) h l (made P S (sound-limits P S x s) x a j (sound-linked P S x s))
+  act-words x a h l s j = made-heading (P * S) S x (apply P S x a) h l (made P S (s .limits) x a j (sound-linked P S x s))
 
   pub act-partitions : (x : Image) (a : Act) → SoundAt P S x → judge P S x a ≡ Accepted → get (apply P S x a) partitions ≡ get x partitions
   act-partitions x a s j = act-words x a 0 (omega arith) s j
@@ -397,4 +398,4 @@ pub zeros-unsound : (n : ℕ) → isSound (replicate n 0) ≡ false
 unfolding get
 zeros-unsound n =
     let x : Image = replicate n 0 in
-    sound-not x (λ s. let z : get x partitions ≡ 0 = zeros n (addr partitions) in let l : 0 < get x partitions = s .some-partition in omega arith)
+    sound-not x (λ s. let z : get x partitions ≡ 0 = zeros n (addr partitions) in let l : 0 < get x partitions = s .limits .some-partition in omega arith)

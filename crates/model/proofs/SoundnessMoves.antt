@@ -13,13 +13,12 @@ use Rattle.kinds.specs.Names.{radix, mostPartitions, wordOf}
 use Rattle.kinds.specs.declared.Target.{Target}
 use Rattle.model.specs.Image.{Image, Key, head, root, flag, state, payload, inlist, field, phase, count, allowance, get, put, placeOf, partOf, refer, Holder, a-root, a-field}
 use Rattle.model.specs.Acts.{isOpen, mark, markWord, store, born}
-use Rattle.model.specs.Sound.{NamesUsed, Free, Right, ShutHead, OpenHead, SoundAt}
+use Rattle.model.specs.Sound.{Limits, NamesUsed, Free, Right, ShutHead, OpenHead, SoundAt}
 use Rattle.model.proofs.Keys.{Fits, In, Sized, kind, major, minor, same, touches, NoCount, touches-same, same-touches, in-fits, get-put-apart, get-put-same, sized-put, refer-apart, refer-same, sized-refer, sized-length, length-sized}
-use Rattle.model.proofs.Places.{Shape, parts, slot-in}
+use Rattle.model.proofs.Places.{parts, slot-in}
 use Rattle.model.proofs.Moves.{Linked, mark-keeps}
 use Rattle.model.proofs.Committing.{mark-word-keeps}
 use Rattle.model.proofs.Counting.{right-put, right-refer}
-use Rattle.model.proofs.Soundness.{sound-limits}
 
 -- a key from its numbers
 build : ℕ → ℕ → ℕ → Key
@@ -130,13 +129,10 @@ module _ (P S : ℕ) where
   pub sound-head : (x : Image) → SoundAt P S x → Head P S x
   sound-head x h = record { phase-bit = h .phase-bit; shut = h .shut; opened = h .opened }
 
-  pub sound-of : (x : Image) → Shape P S → Body P S x → Head P S x → SoundAt P S x
+  pub sound-of : (x : Image) → Limits P S → Body P S x → Head P S x → SoundAt P S x
   sound-of x l b h =
       record {
-        some-partition = l .some-partition;
-        partitions-most = l .partitions-most;
-        some-slot = l .some-slot;
-        slots-most = l .slots-most;
+        limits = l;
         length-agrees = length-sized P S x (b .sized);
         phase-bit = h .phase-bit;
         states = b .states;
@@ -253,7 +249,7 @@ module _ (P S : ℕ) where
 
   -- a word of the head
   pub head-written : {x y : Image} {h v : ℕ} → (Right (P * S) S x → Right (P * S) S y) → Written (P * S) x (head h) v y → SoundAt P S x → Head P S y → SoundAt P S y
-  head-written {x} {y} {h} {v} c w s e = sound-of P S y (sound-limits P S x s) (body-written P S {κ = head h} tt c w (sound-body P S x s)) e
+  head-written {x} {y} {h} {v} c w s e = sound-of P S y (s .limits) (body-written P S {κ = head h} tt c w (sound-body P S x s)) e
 
   -- a word beside it
   module _ {x y : Image} {κ : Key} {v : ℕ} (beside : Beside κ) (allowed : Allowed P S x v κ) (quiet : get x phase ≡ 0 → Quiet v κ)
@@ -261,7 +257,7 @@ module _ (P S : ℕ) where
     pub holds-written : SoundAt P S x → Holds P S x y
     holds-written s =
         record {
-          sound = sound-of P S y (sound-limits P S x s) (body-written P S allowed counts w (sound-body P S x s)) (phases (sound-head P S x s));
+          sound = sound-of P S y (s .limits) (body-written P S allowed counts w (sound-body P S x s)) (phases (sound-head P S x s));
           heads = same-head;
           in-use = written-used P S allowed counts w;
         }
@@ -311,13 +307,13 @@ module _ (P S : ℕ) where
   -- a mark of a place while the phase is open
   pub holds-mark : (x : Image) (j : ℕ) → j < P * S → get x phase ≡ 1 → SoundAt P S x → Holds P S x (mark S x j)
   holds-mark x j l o s =
-      let m = parts P S (s .some-slot) j l in
-      let b = s .partitions-most in
+      let m = parts P S (s .limits .some-slot) j l in
+      let b = s .limits .partitions-most in
       let y : Image = put x (flag (partOf S j)) 0 in
       let down : Holds P S x y = holds-flag x (partOf S j) 0 (omega arith) (omega arith) (λ q. refl) (λ q. refl) s in
       let e : get y phase ≡ get x phase = down .heads 2 (omega arith) in
       let two : _≢_ {A = ℕ} 2 0 = λ q. omega arith in
-      mark-keeps P S (sound-limits P S x s) (Holds P S x) x j
+      mark-keeps P S (s .limits) (Holds P S x) x j
       (λ q. holds-more down (holds-state y j 2 l two (omega arith) (λ z. absurd (omega arith)) (down .sound)))
       (λ n. holds-self x s)
 
@@ -327,7 +323,7 @@ module _ (P S : ℕ) where
   word-place w some l m = slot-in P S some ((w - 1) / radix) ((w - 1) % radix) l m
 
   pub reference-place : (x : Image) (κ : Key) → Holder (P * S) κ → get x κ ≢ 0 → SoundAt P S x → placeOf S (get x κ) < P * S
-  reference-place x κ h n s = let u = s .references κ h n in word-place (get x κ) (s .some-slot) (u .partition) (u .slot)
+  reference-place x κ h n s = let u = s .references κ h n in word-place (get x κ) (s .limits .some-slot) (u .partition) (u .slot)
 
   -- what the theorems over histories ask of an image
   pub sound-linked : (x : Image) → SoundAt P S x → Linked P S x
@@ -342,7 +338,7 @@ module _ (P S : ℕ) where
   -- a mark of what a word names
   pub holds-mark-word : (x : Image) (w : ℕ) → (w ≢ 0 → placeOf S w < P * S) → get x phase ≡ 1 → SoundAt P S x → Holds P S x (markWord S x w)
   holds-mark-word x w l o s =
-      mark-word-keeps P S (sound-limits P S x s) (Holds P S x) x w (λ n. holds-mark x (placeOf S w) (l n) o s) (λ e. holds-self x s)
+      mark-word-keeps P S (s .limits) (Holds P S x) x w (λ n. holds-mark x (placeOf S w) (l n) o s) (λ e. holds-self x s)
 
   -- a reference of a root or of an object, to nothing or an object
   abbrev pub HolderUsed : Image → Key → Type 0
@@ -378,7 +374,7 @@ module _ (P S : ℕ) where
       go : (b : Bool) → isOpen x ≡ b → Holds P S x (refer S (cond b (markWord S x w) x) κ w)
       go true e =
           let m : Holds P S x (markWord S x w) =
-          holds-mark-word x w (λ n. word-place w (s .some-slot) (d n .partition) (d n .slot)) (eqb-true (get x phase) 1 e) s in
+          holds-mark-word x w (λ n. word-place w (s .limits .some-slot) (d n .partition) (d n .slot)) (eqb-true (get x phase) 1 e) s in
           holds-more m (holds-refer (markWord S x w) κ w h (holder-still h m u) (λ n. word-still m (d n)) (m .sound))
       go false e = holds-refer x κ w h u d s
 

@@ -6,13 +6,15 @@ use mathlib.Core.List.{List, [], _∷_, _++_}
 use native.Mathlib.Omega.{arith}
 use borrow.Author.Tests.{eqb-true, ltb-true}
 use Rattle.kinds.specs.declared.Operation.{Operation}
+use Rattle.kinds.specs.declared.Partition.{Partition}
+use Rattle.kinds.specs.declared.Single.the-variants.{Open, Trace, Close, Local}
 use Rattle.kinds.specs.declared.Verdict.the-variants.{Accepted}
 use Rattle.model.specs.Image.{Image, phase, addr, get, blank}
-use Rattle.model.specs.Acts.{Act, commit, opening, closing, trace, local, apply}
+use Rattle.model.specs.Acts.{Act, commit, single, apply}
 use Rattle.model.specs.Judge.{judge}
 use Rattle.model.specs.History.{Run, still, acted, Unclosed}
+use Rattle.model.specs.Sound.{Limits}
 use Rattle.model.proofs.Keys.{blank-zero}
-use Rattle.model.proofs.Places.{Shape}
 use Rattle.model.proofs.Committing.{check-true, commit-keeps, perform-head}
 use Rattle.model.proofs.Closing.{close-phase}
 use Rattle.model.proofs.SoundnessMoves.{sound-linked}
@@ -23,26 +25,26 @@ use Rattle.model.proofs.Reaching.{traced-is, reached}
 pub record InPhase (P S : ℕ) (history : List Act) (y : Image) : Type 0 where
   pub earlier : List Act
   pub since : List Act
-  pub split : history ≡ since ++ (opening ∷ earlier)
+  pub split : history ≡ since ++ (single Open ∷ earlier)
   pub unclosed : Unclosed since
   pub x : Image
   pub before : Run P S (blank P S) earlier x
-  pub opens : judge P S x opening ≡ Accepted
-  pub run : Run P S (apply P S x opening) since y
+  pub opens : judge P S x (single Open) ≡ Accepted
+  pub run : Run P S (apply P S x (single Open)) since y
 
-module _ (P S : ℕ) (shape : Shape P S) where
+module _ (P S : ℕ) (limits : Limits P S) where
   commit-phase : (y : Image) (os : List Operation) → judge P S y (commit os) ≡ Accepted → get (apply P S y (commit os)) phase ≡ get y phase
   unfolding judge apply
   commit-phase y os j =
-      commit-keeps P S (λ z. get z phase ≡ get y phase) (λ z o g e. perform-head P S shape z o 2 (omega arith) g ∙ e) y 1 os (check-true _ _ _ _ j .1) refl
+      commit-keeps P S (λ z. get z phase ≡ get y phase) (λ z o g e. perform-head P S limits z o 2 (omega arith) g ∙ e) y 1 os (check-true _ _ _ _ j .1) refl
 
-  closing-phase : {acts : List Act} {y : Image} → Run P S (blank P S) acts y → get (apply P S y closing) phase ≡ 0
+  closing-phase : {acts : List Act} {y : Image} → Run P S (blank P S) acts y → get (apply P S y (single Close)) phase ≡ 0
   unfolding apply
-  closing-phase {acts} {y} r = close-phase P S shape y (sound-linked P S y (reached P S shape acts y r .sound))
+  closing-phase {acts} {y} r = close-phase P S limits y (sound-linked P S y (reached P S limits acts y r .sound))
 
-  local-phase : {acts : List Act} {y : Image} (p : ℕ) → Run P S (blank P S) acts y → judge P S y (local p) ≡ Accepted → get (apply P S y (local p)) phase ≡ get y phase
+  local-phase : {acts : List Act} {y : Image} (p : Partition) → Run P S (blank P S) acts y → judge P S y (single (Local p)) ≡ Accepted → get (apply P S y (single (Local p))) phase ≡ get y phase
   unfolding judge apply
-  local-phase {acts} {y} p r j = local-head P S p (ltb-true p P (check-true _ _ _ _ j .0)) y (reached P S shape acts y r .sound) 2 (omega arith)
+  local-phase {acts} {y} p r j = local-head P S (p .0) (ltb-true (p .0) P (check-true _ _ _ _ j .0)) y (reached P S limits acts y r .sound) 2 (omega arith)
 
   blank-shut : get (blank P S) phase ≡ 0
   unfolding addr
@@ -66,8 +68,8 @@ module _ (P S : ℕ) (shape : Shape P S) where
   pub in-phase : {acts : List Act} {y : Image} → Run P S (blank P S) acts y → get y phase ≡ 1 → InPhase P S acts y
   in-phase still e = let z = blank-shut in absurd (omega arith)
   in-phase (acted {y = y} (commit os) r j) e = further (commit os) (λ u c. c) j (in-phase r (sym (commit-phase y os j) ∙ e))
-  in-phase (acted {acts = acts} {y = y} opening r j) e =
+  in-phase (acted {acts = acts} {y = y} (single Open) r j) e =
       record { earlier = acts; since = []; split = refl; unclosed = tt; x = y; before = r; opens = j; run = still }
-  in-phase (acted {y = y} (trace p) r j) e = further (trace p) (λ u c. c) j (in-phase r (eqb-true _ _ (traced-is P S shape y p j .0)))
-  in-phase (acted closing r j) e = let z = closing-phase r in absurd (omega arith)
-  in-phase (acted (local p) r j) e = further (local p) (λ u c. c) j (in-phase r (sym (local-phase p r j) ∙ e))
+  in-phase (acted {y = y} (single (Trace p)) r j) e = further (single (Trace p)) (λ u c. c) j (in-phase r (eqb-true _ _ (traced-is P S limits y p j .0)))
+  in-phase (acted (single Close) r j) e = let z = closing-phase r in absurd (omega arith)
+  in-phase (acted (single (Local p)) r j) e = further (single (Local p)) (λ u c. c) j (in-phase r (sym (local-phase p r j) ∙ e))

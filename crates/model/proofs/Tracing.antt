@@ -14,10 +14,12 @@ use Rattle.model.specs.Image.{Image, Key, flag, state, field, get, put, 
 use Rattle.model.specs.Spread.{pass, spread, Reach, step}
 use Rattle.model.specs.Acts.{marked, mark, refers, target, own, foreign, inside, outside, traceOne}
 use Rattle.model.specs.Chains.{Names}
+use Rattle.model.specs.Sound.{Limits}
 use Rattle.model.proofs.Keys.{Fits, same, get-put-apart}
-use Rattle.model.proofs.Places.{Shape, parts, part-of, slot-in, slot-of}
+use Rattle.model.proofs.Places.{parts, part-of, slot-in, slot-of}
 use Rattle.model.proofs.Spreading.{Spreads, reach-along, pass-keeps, spread-keeps, pass-adds, complete, least}
-use Rattle.model.proofs.Moves.{Linked, Phase, up-linked, newMark-state, newMark-flag, up-newMark, mark-keeps, phase-mark, phase-finish}
+use Rattle.model.proofs.Moves.{Linked, up-linked, newMark-state, newMark-flag, up-newMark, mark-keeps}
+use Rattle.model.proofs.Phase.{Phase, phase-mark, phase-finish}
 
 -- a field that refers to a wanted place
 module _ (S : ℕ) (wanted : ℕ → Bool) (x : Image) (i k : ℕ) where
@@ -28,24 +30,24 @@ module _ (S : ℕ) (wanted : ℕ → Bool) (x : Image) (i k : ℕ) where
   pub refers-so : get x (field i k) ≢ 0 → wanted (target S x i k) ≡ true → refers S wanted x i k ≡ true
   refers-so ne e = rw (ne-eqb (get x (field i k)) 0 ne, e)
 
-module _ (P S : ℕ) (shape : Shape P S) where
+module _ (P S : ℕ) (limits : Limits P S) where
   -- an object in use
   pub Used : Image → ℕ → Type 0
   Used x t = (t < P * S) × (get x (state t) ≢ 0)
 
   pub mark-read : (x : Image) (t : ℕ) (μ : Key) → t < P * S → Fits μ → same (state t) μ ≡ false → same (flag (partOf S t)) μ ≡ false → get (mark S x t) μ ≡ get x μ
   mark-read x t μ l f a b =
-      let w = parts P S (shape .some-slot) t l in
-      mark-keeps P S shape (λ y. get y μ ≡ get x μ) x t
+      let w = parts P S (limits .some-slot) t l in
+      mark-keeps P S limits (λ y. get y μ ≡ get x μ) x t
       (λ e. get-put-apart (put x (flag (partOf S t)) 0) (state t) 2 μ tt f a ∙ get-put-apart x (flag (partOf S t)) 0 μ (omega arith) f b)
       (λ ne. refl)
 
   pub mark-linked : (x : Image) (t : ℕ) → t < P * S → Linked P S x → Linked P S (mark S x t)
-  mark-linked x t l w = mark-keeps P S shape (Linked P S) x t (λ e. up-linked P S shape x _ (up-newMark P S shape x t l (w .size)) w) (λ ne. w)
+  mark-linked x t l w = mark-keeps P S limits (Linked P S) x t (λ e. up-linked P S limits x _ (up-newMark P S limits x t l (w .size)) w) (λ ne. w)
 
   pub mark-marks : (x : Image) (t : ℕ) → t < P * S → Linked P S x → get x (state t) ≢ 0 → get (mark S x t) (state t) ≡ 2
   mark-marks x t l w u =
-      mark-keeps P S shape (λ y. get y (state t) ≡ 2) x t (λ e. newMark-state P S shape x t l (w .size)) (λ ne. let b = w .states t l in omega arith)
+      mark-keeps P S limits (λ y. get y (state t) ≡ 2) x t (λ e. newMark-state P S limits x t l (w .size)) (λ ne. let b = w .states t l in omega arith)
 
   pub mark-stays : (x : Image) (t i : ℕ) → t < P * S → Linked P S x → get x (state i) ≡ 2 → get (mark S x t) (state i) ≡ 2
   mark-stays x t i l w e = go (ℕ-discrete t i)
@@ -59,7 +61,7 @@ module _ (P S : ℕ) (shape : Shape P S) where
   mark-flag x t p l m w e = go (ℕ-discrete (partOf S t) p)
     where
       go : Dec (partOf S t ≡ p) → get (mark S x t) (flag p) ≡ 0
-      go (yes q) = mark-keeps P S shape (λ y. get y (flag p) ≡ 0) x t (λ z. rw (← q) (newMark-flag P S shape x t l (w .size))) (λ ne. e)
+      go (yes q) = mark-keeps P S limits (λ y. get y (flag p) ≡ 0) x t (λ z. rw (← q) (newMark-flag P S limits x t l (w .size))) (λ ne. e)
       go (no q) = mark-read x t (flag p) l m refl (ne-eqb _ _ q) ∙ e
 
   -- z is x with more marks: every word that is no state and no flag stays, and so do the marks
@@ -91,11 +93,11 @@ module _ (P S : ℕ) (shape : Shape P S) where
             ok-add = λ x t w u. mark-linked x t (u .0) w;
             has-same = λ x t w u. eq-eqb _ _ (mark-marks x t (u .0) w (u .1));
             has-other = λ x t i w u ne. rw (mark-read x t (state i) (u .0) tt (ne-eqb t i ne) refl);
-            add-had = λ x t e. mark-keeps P S shape (λ y. y ≡ x) x t (λ q. let two : get x (state t) ≡ 2 = eqb-true _ _ e in absurd (omega arith)) (λ ne. refl);
+            add-had = λ x t e. mark-keeps P S limits (λ y. y ≡ x) x t (λ q. let two : get x (state t) ≡ 2 = eqb-true _ _ e in absurd (omega arith)) (λ ne. refl);
             edge-add = λ x t i k w u l. rw (mark-read x t (field i k) (u .0) l refl refl);
             target-add = λ x t i k w u l. rw (mark-read x t (field i k) (u .0) l refl refl);
             inside = λ x j k w l m e.
-                w .refs (field (p * S + j) k) (a-field (slot-in P S (shape .some-slot) p j inp l) m) (refers-is S wanted x (p * S + j) k e .0);
+                w .refs (field (p * S + j) k) (a-field (slot-in P S (limits .some-slot) p j inp l) m) (refers-is S wanted x (p * S + j) k e .0);
           }
 
       -- what the mark of a wanted target keeps, where a marked object of p refers to it
@@ -105,7 +107,7 @@ module _ (P S : ℕ) (shape : Shape P S) where
         unfolding Used
         once z j k l m a e q =
             let r = refers-is S wanted z (p * S + j) k e in
-            h z (p * S + j) k (slot-in P S (shape .some-slot) p j inp l) m (part-of P S (shape .some-slot) p j l) (eqb-true _ _ a) (r .0) (r .1) (spreads .inside z j k (linked z q) l m e .0) q
+            h z (p * S + j) k (slot-in P S (limits .some-slot) p j inp l) m (part-of P S (limits .some-slot) p j l) (eqb-true _ _ a) (r .0) (r .1) (spreads .inside z j k (linked z q) l m e .0) q
 
         pub pass-marks : (x : Image) → Q x → Q (pass marked (mark S) (refers S wanted) (target S) (λ s. p * S + s) S 4 x)
         pass-marks x q = pass-keeps marked (mark S) (refers S wanted) (target S) (λ s. p * S + s) S 4 Q once x q
@@ -128,7 +130,7 @@ module _ (P S : ℕ) (shape : Shape P S) where
 
     -- Within p: exactly the least set is marked that has p's marked objects and what p's fields inside p lead to
     within : (y : Image) (j k : ℕ) → Linked P S y → j < S → k < 4 → refers S (own S p) y (p * S + j) k ≡ true → (s : ℕ) × (s < S) × (p * S + s ≡ target S y (p * S + j) k)
-    within y j k w l m e = slot-of P S (shape .some-slot) _ p (eqb-true _ _ (refers-is S (own S p) y (p * S + j) k e .1))
+    within y j k w l m e = slot-of P S (limits .some-slot) _ p (eqb-true _ _ (refers-is S (own S p) y (p * S + j) k e .1))
 
     -- a field of an object of p names an object of p
     unfoldable pub Own : Image → ℕ → ℕ → Type 0
@@ -141,7 +143,7 @@ module _ (P S : ℕ) (shape : Shape P S) where
         (λ v t d.
         let r = refers-is S (own S p) x (p * S + d .0) (d .1) (d .5) in
         let near : partOf S (target S x (p * S + d .0) (d .1)) ≡ p = eqb-true _ _ (r .1) in
-        rw (← d .4, ← d .6) (d .1, d .3, part-of P S (shape .some-slot) p (d .0) (d .2), near, record { some = r .0; target = refl }))
+        rw (← d .4, ← d .6) (d .1, d .3, part-of P S (limits .some-slot) p (d .0) (d .2), near, record { some = r .0; target = refl }))
         (least marked (mark S) _ (target S) (λ s. p * S + s) S 4 (Linked P S) Used (spreads (own S p)) x w i e)
 
     pub inside-all : (x : Image) → Linked P S x → (i : ℕ) → Reach (λ v. marked x v ≡ true) (Own x) i → marked (inside S p x) i ≡ true
@@ -150,7 +152,7 @@ module _ (P S : ℕ) (shape : Shape P S) where
         complete marked (mark S) _ (target S) (λ s. p * S + s) S 4 (Linked P S) Used (spreads (own S p)) (λ i j l m q. omega arith) within x i w
         (reach-along
         (λ v t d.
-        let s = slot-of P S (shape .some-slot) v p (d .2) in
+        let s = slot-of P S (limits .some-slot) v p (d .2) in
         let near : own S p (target S x v (d .0)) ≡ true = rw (d .4 .target) (eq-eqb (partOf S t) p (d .3)) in
         (s .0, d .0, s .1, d .1, s .2, rw (s .2) (refers-so S (own S p) x v (d .0) (d .4 .some) near), rw (s .2) (d .4 .target)))
         r)
@@ -191,7 +193,7 @@ module _ (P S : ℕ) (shape : Shape P S) where
     unfolding outside
     outside-all x w t f =
         let i = f .holder in
-        let s = slot-of P S (shape .some-slot) i p (f .near) in
+        let s = slot-of P S (limits .some-slot) i p (f .near) in
         let here : marked x (p * S + s .0) ≡ true = rw (s .2, f .two) in
         let far : foreign S p (target S x i (f .k)) ≡ true = rw (f .names .target, ne-eqb (partOf S t) p (f .far)) in
         let edge : refers S (foreign S p) x (p * S + s .0) (f .k) ≡ true = rw (s .2) (refers-so S (foreign S p) x i (f .k) (f .names .some) far) in
@@ -224,10 +226,10 @@ module _ (P S : ℕ) (shape : Shape P S) where
     unfolding Going
     going x ph f =
         trace-marks Going (λ z g. g .0 .linked)
-        (λ z i k l m a e u g. (phase-mark P S shape z _ u (g .0), mark-flag z _ p u (omega arith) (g .0 .linked) (g .1))) x (ph, f)
+        (λ z i k l m a e u g. (phase-mark P S limits z _ u (g .0), mark-flag z _ p u (omega arith) (g .0 .linked) (g .1))) x (ph, f)
 
     pub phase-trace : (x : Image) → Phase P S x → get x (flag p) ≡ 0 → Phase P S (traceOne S p x)
     unfolding traceOne Going
     phase-trace x ph f =
         let g = going x ph f in
-        phase-finish P S shape _ p inp (g .1) (λ i k l m q a ne. done x (ph .linked) i k m q a ne) (g .0)
+        phase-finish P S limits _ p inp (g .1) (λ i k l m q a ne. done x (ph .linked) i k m q a ne) (g .0)

@@ -9,6 +9,8 @@ use Rattle.kinds.specs.Names.{wordOf, mostPartitions}
 use Rattle.kinds.specs.declared.Target.{Target}
 use Rattle.kinds.specs.declared.Operation.{Operation}
 use Rattle.kinds.specs.declared.Operation.the-variants.{New, Set, Val, Root}
+use Rattle.kinds.specs.declared.Single.{Single}
+use Rattle.kinds.specs.declared.Single.the-variants.{Open, Trace, Close, Local}
 use Rattle.model.specs.Image.{Image, Key, root, flag, state, payload, inlist, field, phase, count, allowance, anchors, get, put, place, placeOf, partOf, refer, release}
 use Rattle.model.specs.Spread.{pass, spread}
 use Rattle.model.specs.Questions.{Bits, hasBit, addBit, collect, held, heldAt}
@@ -16,8 +18,7 @@ use Rattle.model.specs.Questions.{Bits, hasBit, addBit, collect, held, h
 -- an act that a history is made of (a formatting begins one)
 pub data Act : Type 0 where
   commit : List Operation → Act
-  opening closing : Act
-  trace local : ℕ → Act
+  single : Single → Act
 
 -- states: 0 free, 1 in use, 2 in use and marked
 abbrev pub used : Image → ℕ → Bool
@@ -147,7 +148,7 @@ localFreed P S p img = tally S (λ s. both (used img (p * S + s)) (not (hasBit (
 -- what an accepted act leaves
 unfoldable pub apply : ℕ → ℕ → Image → Act → Image
 apply P S img (commit os) = performAll S img os
-apply P S img opening = openUp P S img
-apply P S img (trace p) = traceOne S p img
-apply P S img closing = closeUp P S img
-apply P S img (local p) = localUp P S p img
+apply P S img (single Open) = openUp P S img
+apply P S img (single (Trace p)) = traceOne S (p .0) img
+apply P S img (single Close) = closeUp P S img
+apply P S img (single (Local p)) = localUp P S (p .0) img

@@ -11,9 +11,11 @@ use Rattle.kinds.specs.declared.Name.{Name}
 use Rattle.kinds.specs.declared.Target.the-variants.{Object}
 use Rattle.kinds.specs.declared.Operation.{Operation}
 use Rattle.kinds.specs.declared.Operation.the-variants.{New, Set, Val, Root}
+use Rattle.kinds.specs.declared.Single.{Single}
+use Rattle.kinds.specs.declared.Single.the-variants.{Open}
 use Rattle.model.specs.Image.{Image, Key, root, state, payload, field, anchors, get, place, placeOf, partOf}
 use Rattle.model.specs.Spread.{Reach}
-use Rattle.model.specs.Acts.{Act, commit, opening, closing, trace, local}
+use Rattle.model.specs.Acts.{Act, commit, single}
 
 -- at one moment: κ names the object at j
 pub record Names (S : ℕ) (img : Image) (κ : Key) (j : ℕ) : Type 0 where
@@ -43,11 +45,10 @@ pub record Stays (x y : Image) (j : ℕ) : Type 0 where
   pub value : get y (payload j) ≡ get x (payload j)
   pub fields : (k : ℕ) → k < 4 → get y (field j k) ≡ get x (field j k)
 
--- a history in steps, the last first: each operation is one
+-- a history in steps, the last first: each operation is one, and each single-line act
 pub data Step : Type 0 where
   op : Operation → Step
-  opens closes : Step
-  traced localized : ℕ → Step
+  did : Single → Step
 
 unfoldable pub push : List Operation → List Step → List Step
 push [] h = h
@@ -56,10 +57,7 @@ push (o ∷ os) h = push os (op o ∷ h)
 unfoldable pub steps : List Act → List Step → List Step
 steps [] h = h
 steps (commit os ∷ acts) h = push os (steps acts h)
-steps (opening ∷ acts) h = opens ∷ steps acts h
-steps (trace p ∷ acts) h = traced p ∷ steps acts h
-steps (closing ∷ acts) h = closes ∷ steps acts h
-steps (local p ∷ acts) h = localized p ∷ steps acts h
+steps (single a ∷ acts) h = did a ∷ steps acts h
 
 -- the number of the step that created the object now at place j
 unfoldable pub birth : ℕ → List Step → ℕ → ℕ
@@ -68,10 +66,7 @@ birth S (op (New n v) ∷ h) j = cond (eqb (place S n) j) (suc (length h)) (birt
 birth S (op (Set n k t) ∷ h) j = birth S h j
 birth S (op (Val n v) ∷ h) j = birth S h j
 birth S (op (Root r t) ∷ h) j = birth S h j
-birth S (opens ∷ h) j = birth S h j
-birth S (closes ∷ h) j = birth S h j
-birth S (traced p ∷ h) j = birth S h j
-birth S (localized p ∷ h) j = birth S h j
+birth S (did a ∷ h) j = birth S h j
 
 -- h is `base` with steps on top
 pub data Above (base : List Step) : List Step → Type 0 where
@@ -97,7 +92,7 @@ pub data Chain (S : ℕ) (x : Image) (base : List Step) (Taken : Step → List S
 
 -- the steps of a history up to an opening, and with the acts since
 abbrev pub toOpening : List Act → List Step
-toOpening earlier = opens ∷ steps earlier []
+toOpening earlier = did Open ∷ steps earlier []
 
 -- after `earlier` a phase was opened, and `acts` came since: the number of the step that created the object now at place j, or the last that was there
 abbrev pub birthNow : ℕ → List Act → List Act → ℕ → ℕ

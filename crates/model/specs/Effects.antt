@@ -12,9 +12,10 @@ use Rattle.kinds.specs.declared.Target.{Target}
 use Rattle.kinds.specs.declared.Target.the-variants.{Object}
 use Rattle.kinds.specs.declared.Operation.{Operation}
 use Rattle.kinds.specs.declared.Operation.the-variants.{New, Set, Val, Root}
+use Rattle.kinds.specs.declared.Single.the-variants.{Open, Trace, Close, Local}
 use Rattle.model.specs.Image.{Image, Key, head, root, flag, state, payload, inlist, field, isCount, phase, count, allowance, anchors, get, lengthOf, place, partOf}
 use Rattle.model.specs.Spread.{Reach}
-use Rattle.model.specs.Acts.{Act, commit, opening, closing, trace, local, used, isOpen, unmarked, localFreed}
+use Rattle.model.specs.Acts.{Act, commit, single, used, isOpen, unmarked, localFreed}
 use Rattle.model.specs.Chains.{Names, Rooted, Leads}
 use Rattle.model.specs.Sound.{Right}
 
@@ -160,7 +161,7 @@ pub record Spares (P S p : ℕ) (x y : Image) : Type 0 where
 -- what an accepted act makes of x
 abbrev pub Effect : ℕ → ℕ → Act → Image → Image → Type 0
 Effect P S (commit os) x y = Committed P S x os y
-Effect P S opening x y = Opened P S x y
-Effect P S (trace p) x y = Traced P S p x y
-Effect P S closing x y = Closed P S x y
-Effect P S (local p) x y = Localized P S p x y
+Effect P S (single Open) x y = Opened P S x y
+Effect P S (single (Trace p)) x y = Traced P S (p .0) x y
+Effect P S (single Close) x y = Closed P S x y
+Effect P S (single (Local p)) x y = Localized P S (p .0) x y

@@ -5,9 +5,10 @@ use mathlib.Core.List.{List, [], _∷_}
 use mathlib.Core.Path.{_≡_}
 use lib.Dec.{eqb}
 use Rattle.loops.specs.Loop.{both, every, tally}
+use Rattle.kinds.specs.declared.Single.the-variants.{Open, Trace, Close, Local}
 use Rattle.kinds.specs.declared.Verdict.the-variants.{Accepted}
 use Rattle.model.specs.Image.{Image, Key, root, anchors, get, placeOf}
-use Rattle.model.specs.Acts.{Act, commit, opening, closing, trace, local, used, apply}
+use Rattle.model.specs.Acts.{Act, commit, single, used, apply}
 use Rattle.model.specs.Judge.{judge}
 
 -- y comes from x by acts, the last first, each acceptable where it stands: after the acts before it, on the heap that they leave
@@ -23,19 +24,19 @@ Run P S = RunBy P S (λ acts y a. judge P S y a ≡ Accepted)
 unfoldable pub traces : List Act → ℕ
 traces [] = 0
 traces (commit os ∷ acts) = traces acts
-traces (opening ∷ acts) = traces acts
-traces (trace p ∷ acts) = traces acts + 1
-traces (closing ∷ acts) = traces acts
-traces (local p ∷ acts) = traces acts
+traces (single Open ∷ acts) = traces acts
+traces (single (Trace p) ∷ acts) = traces acts + 1
+traces (single Close ∷ acts) = traces acts
+traces (single (Local p) ∷ acts) = traces acts
 
 -- a history that closes no phase
 abbrev pub Unclosed : List Act → Type 0
 Unclosed [] = Unit {0}
 Unclosed (commit os ∷ acts) = Unclosed acts
-Unclosed (opening ∷ acts) = Unclosed acts
-Unclosed (trace p ∷ acts) = Unclosed acts
-Unclosed (closing ∷ acts) = ⊥
-Unclosed (local p ∷ acts) = Unclosed acts
+Unclosed (single Open ∷ acts) = Unclosed acts
+Unclosed (single (Trace p) ∷ acts) = Unclosed acts
+Unclosed (single Close ∷ acts) = ⊥
+Unclosed (single (Local p) ∷ acts) = Unclosed acts
 
 -- the root or field κ names the object at j
 abbrev pub names : ℕ → Image → Key → ℕ → Bool

@@ -2,6 +2,7 @@
 use Prim.Native.Nat.{ℕ, _+_, _*_, _-_, _/_, _%_, _<_}
 use mathlib.Core.Bool.{Bool, true, false, not, cond}
 use mathlib.Core.List.{List, _∷_}
+use mathlib.Core.Path.{_≡_}
 use lib.Dec.{eqb}
 use lib.ListN.{getD, set, length, replicate}
 use Rattle.loops.specs.Loop.{both}
@@ -63,6 +64,10 @@ addr (payload j) = front + stride * j + 1
 addr (field j k) = front + stride * j + 2 + k
 addr (inlist j) = front + stride * j + 6
 
+-- an image has the word of a key
+unfoldable pub Has : Image → Key → Type 0
+Has img κ = addr κ < length img
+
 unfoldable pub get : Image → Key → ℕ
 get img κ = getD img (addr κ) 0
 
@@ -75,6 +80,10 @@ lengthOf img = length img
 
 unfoldable pub size : ℕ → ℕ → ℕ
 size P S = front + stride * (P * S)
+
+-- an image of n places
+unfoldable pub Sized : ℕ → Image → Type 0
+Sized n img = length img ≡ front + stride * n
 
 -- format leaves P, S, phase shut, nothing else set
 unfoldable pub blank : ℕ → ℕ → Image

@@ -12,10 +12,11 @@ use Rattle.kinds.specs.declared.Target.{Target}
 use Rattle.kinds.specs.declared.Target.the-variants.{Nothing, Object}
 use Rattle.kinds.specs.declared.Operation.{Operation}
 use Rattle.kinds.specs.declared.Operation.the-variants.{New, Set, Val, Root}
+use Rattle.kinds.specs.declared.Single.the-variants.{Open, Trace, Close, Local}
 use Rattle.kinds.specs.declared.Verdict.{Verdict}
 use Rattle.kinds.specs.declared.Verdict.the-variants.{Accepted, Refused}
 use Rattle.model.specs.Image.{Image, Key, root, flag, field, count, allowance, anchors, get, size, place, placeOf}
-use Rattle.model.specs.Acts.{Act, commit, opening, closing, trace, local, used, marked, isOpen, perform, notClean}
+use Rattle.model.specs.Acts.{Act, commit, single, used, marked, isOpen, perform, notClean}
 
 -- the next check, if this one passes
 unfoldable pub check : Bool → ℕ → ℕ → Verdict → Verdict
@@ -80,15 +81,15 @@ lowest P img = first P 0 (λ p. eqb (get img (flag p)) 0)
 -- commit 6, each operation; open 11, 12; trace 10, 7, 13, 15; close 10, 12, 14, 16; local 7, 12
 unfoldable pub judge : ℕ → ℕ → Image → Act → Verdict
 judge P S img (commit os) = check (both (ltb 0 (length os)) (leb (length os) mostOperations)) 6 0 (judgeOps P S img 1 os)
-judge P S img opening = check (not (isOpen img)) 11 0 (check (rooted img) 12 0 Accepted)
-judge P S img (trace p) =
+judge P S img (single Open) = check (not (isOpen img)) 11 0 (check (rooted img) 12 0 Accepted)
+judge P S img (single (Trace p)) =
     check (isOpen img) 10 0
-    (check (ltb p P) 7 0
-    (check (eqb (get img (flag p)) 0) 13 0 (check (not (eqb (get img count) (get img allowance))) 15 0 Accepted)))
-judge P S img closing =
+    (check (ltb (p .0) P) 7 0
+    (check (eqb (get img (flag (p .0))) 0) 13 0 (check (not (eqb (get img count) (get img allowance))) 15 0 Accepted)))
+judge P S img (single Close) =
     check (isOpen img) 10 0
     (check (rooted img) 12 0 (check (eqb (notClean P img) 0) 14 (lowest P img) (check (led P S img) 16 0 Accepted)))
-judge P S img (local p) = check (ltb p P) 7 0 (check (rooted img) 12 0 Accepted)
+judge P S img (single (Local p)) = check (ltb (p .0) P) 7 0 (check (rooted img) 12 0 Accepted)
 
 -- outlist: 7
 unfoldable pub judgeOutlist : ℕ → ℕ → Verdict

@@ -98,12 +98,16 @@ pub record OpenHead (P S : ℕ) (x : Image) : Type 0 where
   pub allowed : get x allowance ≤ P + P * S
   pub counted : get x count ≤ get x allowance
 
--- the paper's conditions for P partitions of S slots
-pub record SoundAt (P S : ℕ) (x : Image) : Type 0 where
+-- P is 1 to 16, S is 1 to 64
+pub record Limits (P S : ℕ) : Type 0 where
   pub some-partition : 0 < P
   pub partitions-most : P ≤ mostPartitions
   pub some-slot : 0 < S
   pub slots-most : S ≤ mostSlots
+
+-- the paper's conditions for P partitions of S slots
+pub record SoundAt (P S : ℕ) (x : Image) : Type 0 where
+  pub limits : Limits P S
   pub length-agrees : lengthOf x ≡ size P S
   pub phase-bit : get x phase ≤ 1
   pub states : (j : ℕ) → j < P * S → get x (state j) ≤ 2

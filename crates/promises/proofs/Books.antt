@@ -16,7 +16,7 @@ use Rattle.writer.specs.Record.{Rule, newest, recordOf, headingOf}
 use Rattle.writer.specs.Write.{splice}
 use Rattle.journal.specs.Log.{logOf, replay, whole, Kept, LooksTorn}
 use Rattle.journal.specs.Recover.{Recovered, recovery, recoverOf}
-use Rattle.journal.proofs.Any.{any-bytes}
+use Rattle.journal.proofs.AnyBytes.{any-bytes}
 use Rattle.journal.proofs.Carrying.{whole-part, kept-bytes}
 use Rattle.journal.proofs.Demand.{kept-is, cut-says, demand-2}
 use Rattle.journal.proofs.Torn.{honest-torn}

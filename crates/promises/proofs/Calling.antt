@@ -8,11 +8,12 @@ use mathlib.Core.Logic.{_≢_}
 use native.Mathlib.Omega.{arith}
 use lib.ListN.{length}
 use Rattle.kinds.specs.Answers.{refuse}
+use Rattle.kinds.specs.declared.Single.the-variants.{Open, Trace, Close, Local}
 use Rattle.kinds.specs.declared.Refusal.{Refusal}
 use Rattle.kinds.specs.declared.Verdict.{Verdict}
 use Rattle.kinds.specs.declared.Verdict.the-variants.{Accepted, Refused}
 use Rattle.model.specs.Image.{Image, partitions, slots, get, lengthOf, blank}
-use Rattle.model.specs.Acts.{opening, closing, trace, local}
+use Rattle.model.specs.Acts.{single}
 use Rattle.model.specs.Judge.{check, andThen, judgeFormat}
 use Rattle.model.specs.Sound.{isSound}
 use Rattle.writer.specs.Record.{recordOf, newest, headingOf}
@@ -20,28 +21,28 @@ use Rattle.writer.specs.Write.{splice}
 use Rattle.catalogue.specs.declared.Answer.the-variants.{Done, Refused as NotDone}
 use Rattle.catalogue.specs.declared.Closing.the-variants.{Refused as NotClosed}
 use Rattle.catalogue.specs.declared.Freeing.the-variants.{Refused as NotFreed}
-use Rattle.catalogue.specs.Call.{Outcome, outcome, perform, judgeIn, applyIn, judgeAct, judgeCommit, formatOf, callOf, commitOf, closed, closeOf, freed, localOf}
+use Rattle.catalogue.specs.Call.{Outcome, outcome, perform, judgeIn, applyIn, judgeAct, judgeCommit, formatOf, callBy, commitOf, closed, freed}
+use Rattle.catalogue.proofs.Perform.{fully, Performed, did, left, performed}
 use Rattle.catalogue.proofs.Judged.{act-sound, act-judged, commit-sound, commit-judged}
 use Rattle.model.proofs.Numbers.{Among, accepted, numbered, act-among, format-among}
-use Rattle.promises.specs.Calls.{Call, commit-call, open-call, close-call, trace-call, local-call, actOf, Made, answered, closed-up, freed-up, formatting, calling}
-use Rattle.promises.proofs.Listing.{fully, Performed, did, left, performed}
+use Rattle.promises.specs.Calls.{Call, commit-call, single-call, actOf, Made, answered, closed-up, freed-up, formatting, calling}
 
 -- a verdict that is not a refusal with the number k
 unfoldable pub Beside : ℕ → Verdict → Type 0
 Beside k Accepted = Unit {0}
 Beside k (Refused r) = r .number ≢ k
 
-pub beside-check : (k : ℕ) (b : Bool) (n e : ℕ) (u : Verdict) → n ≢ k → Beside k u → Beside k (check b n e u)
+beside-check : (k : ℕ) (b : Bool) (n e : ℕ) (u : Verdict) → n ≢ k → Beside k u → Beside k (check b n e u)
 unfolding check Beside
 beside-check k true n e u d h = h
 beside-check k false n e u d h = d
 
-pub beside-then : (k : ℕ) (u v : Verdict) → Beside k u → Beside k v → Beside k (andThen u v)
+beside-then : (k : ℕ) (u v : Verdict) → Beside k u → Beside k v → Beside k (andThen u v)
 unfolding andThen Beside
 beside-then k Accepted v h i = i
 beside-then k (Refused r) v h i = h
 
-pub beside-accepted : (k : ℕ) → Beside k Accepted
+beside-accepted : (k : ℕ) → Beside k Accepted
 unfolding Beside
 beside-accepted k = tt
 
@@ -55,7 +56,7 @@ unfolding Beside
 beside-not k u r h e = rw e at h
 
 -- as the numbers from lo to hi, where k is below them
-pub beside-among : (k lo hi : ℕ) (u : Verdict) → k < lo → Among lo hi u → Beside k u
+beside-among : (k lo hi : ℕ) (u : Verdict) → k < lo → Among lo hi u → Beside k u
 unfolding Beside
 beside-among k lo hi Accepted l accepted = tt
 beside-among k lo hi (Refused _) l (numbered r a b) = λ e. omega arith
@@ -63,19 +64,13 @@ beside-among k lo hi (Refused _) l (numbered r a b) = λ e. omega arith
 -- all that a call checks before 17
 abbrev pub judgeCall : Image → Call → Verdict
 judgeCall img (commit-call ops n) = judgeCommit img ops n
-judgeCall img open-call = judgeAct img opening
-judgeCall img (trace-call p) = judgeAct img (trace (p .0))
-judgeCall img close-call = judgeAct img closing
-judgeCall img (local-call p) = judgeAct img (local (p .0))
+judgeCall img (single-call a) = judgeAct img (single a)
 
 -- where its act's judge does not refuse with k, nor 1 and 6 are k, the call does not
 pub call-beside : (k : ℕ) (img : Image) (c : Call) → 1 ≢ k → 6 ≢ k → Beside k (judgeIn img (actOf c)) → Beside k (judgeCall img c)
 unfolding judgeCommit judgeAct
 call-beside k img (commit-call ops n) one six h = beside-check k _ 1 0 _ one (beside-check k _ 6 0 _ six h)
-call-beside k img open-call one six h = beside-check k _ 1 0 _ one h
-call-beside k img (trace-call p) one six h = beside-check k _ 1 0 _ one h
-call-beside k img close-call one six h = beside-check k _ 1 0 _ one h
-call-beside k img (local-call p) one six h = beside-check k _ 1 0 _ one h
+call-beside k img (single-call a) one six h = beside-check k _ 1 0 _ one h
 
 call-numbers : (img : Image) (c : Call) → Beside 0 (judgeCall img c)
 call-numbers img c = call-beside 0 img c (λ z. omega arith) (λ z. omega arith) (beside-among 0 6 16 _ (omega arith) (act-among (get img partitions) (get img slots) img (actOf c)))
@@ -83,10 +78,7 @@ call-numbers img c = call-beside 0 img c (λ z. omega arith) (λ z. omega arith)
 -- accepted, its act is accepted where it stands
 pub call-judged : (img : Image) (c : Call) → judgeCall img c ≡ Accepted → (isSound img ≡ true) × (judgeIn img (actOf c) ≡ Accepted)
 call-judged img (commit-call ops n) e = (commit-sound img ops n e, commit-judged img ops n e)
-call-judged img open-call e = (act-sound img opening e, act-judged img opening e)
-call-judged img (trace-call p) e = (act-sound img (trace (p .0)) e, act-judged img (trace (p .0)) e)
-call-judged img close-call e = (act-sound img closing e, act-judged img closing e)
-call-judged img (local-call p) e = (act-sound img (local (p .0)) e, act-judged img (local (p .0)) e)
+call-judged img (single-call a) e = (act-sound img (single a) e, act-judged img (single a) e)
 
 -- the two ways
 abbrev made : ℕ → ℕ → Image → List ℕ → Made
@@ -107,19 +99,19 @@ ways {A} form does refuses u bytes next img log at d n = go (performed does refu
     go (did a l) = subst (Ways u bytes next img log at) (sym (d _ _ _)) (done a l)
     go (left r e) = subst (Ways u bytes next img log at) (sym (n r img log)) (not-done r e)
 
-pub format-ways : (img : Image) (P S : ℕ) (log : List ℕ) (at : ℕ)
+format-ways : (img : Image) (P S : ℕ) (log : List ℕ) (at : ℕ)
     → Ways (judgeFormat P S (lengthOf img)) (headingOf (newest P S)) (blank P S) img log at (formatting img P S log at)
 unfolding formatOf
 format-ways img P S log at = ways answered Done NotDone _ _ _ img log at (λ n y g. refl) (λ r y g. refl)
 
 pub call-ways : (img : Image) (c : Call) (log : List ℕ) (at : ℕ)
     → Ways (judgeCall img c) (recordOf (actOf c)) (applyIn img (actOf c)) img log at (calling img c log at)
-unfolding commitOf callOf closeOf localOf
+unfolding commitOf callBy
 call-ways img (commit-call ops n) log at = ways answered Done NotDone _ _ _ img log at (λ n y g. refl) (λ r y g. refl)
-call-ways img open-call log at = ways answered Done NotDone _ _ _ img log at (λ n y g. refl) (λ r y g. refl)
-call-ways img (trace-call p) log at = ways answered Done NotDone _ _ _ img log at (λ n y g. refl) (λ r y g. refl)
-call-ways img close-call log at = ways closed-up (closed img) NotClosed _ _ _ img log at (λ n y g. refl) (λ r y g. refl)
-call-ways img (local-call p) log at = ways freed-up (freed img (p .0)) NotFreed _ _ _ img log at (λ n y g. refl) (λ r y g. refl)
+call-ways img (single-call Open) log at = ways answered Done NotDone _ _ _ img log at (λ n y g. refl) (λ r y g. refl)
+call-ways img (single-call (Trace p)) log at = ways answered Done NotDone _ _ _ img log at (λ n y g. refl) (λ r y g. refl)
+call-ways img (single-call Close) log at = ways closed-up (closed img) NotClosed _ _ _ img log at (λ n y g. refl) (λ r y g. refl)
+call-ways img (single-call (Local p)) log at = ways freed-up (freed img p) NotFreed _ _ _ img log at (λ n y g. refl) (λ r y g. refl)
 
 -- 17 is not 0 either
 pub fully-beside : (k : ℕ) (u : Verdict) (bytes log : List ℕ) (at : ℕ) → 17 ≢ k → Beside k u → Beside k (fully u bytes log at)
@@ -133,7 +125,7 @@ pub record Accepting (u : Verdict) (bytes : List ℕ) (next : Image) (log : List
   pub length-is : m .length ≡ length bytes
   pub log-is : m .log ≡ splice log at bytes
 
-pub accepting : {u : Verdict} {bytes : List ℕ} {next img : Image} {log : List ℕ} {at : ℕ} {m : Made}
+accepting : {u : Verdict} {bytes : List ℕ} {next img : Image} {log : List ℕ} {at : ℕ} {m : Made}
     → Beside 0 u → Ways u bytes next img log at m → m .number ≡ 0 → Accepting u bytes next log at m
 accepting b (done a l) z = record { judged = a; room = l; image-is = refl; length-is = refl; log-is = refl }
 accepting {u = u} {bytes = bytes} {log = log} {at = at} b (not-done r e) z =
@@ -144,7 +136,7 @@ pub record Refusing (img : Image) (log : List ℕ) (m : Made) : Type 0 where
   pub image-is : m .image ≡ img
   pub log-is : m .log ≡ log
 
-pub refusing : {u : Verdict} {bytes : List ℕ} {next img : Image} {log : List ℕ} {at : ℕ} {m : Made}
+refusing : {u : Verdict} {bytes : List ℕ} {next img : Image} {log : List ℕ} {at : ℕ} {m : Made}
     → Ways u bytes next img log at m → m .number ≢ 0 → Refusing img log m
 refusing (done a l) ne = absurd (ne refl)
 refusing (not-done r e) ne = record { image-is = refl; log-is = refl }

@@ -14,10 +14,11 @@ use Rattle.loops.proofs.Tests.{clash, is-false, both-true}
 use Rattle.kinds.specs.declared.Name.{Name}
 use Rattle.kinds.specs.declared.Partition.{Partition}
 use Rattle.kinds.specs.declared.Refusal.{Refusal}
+use Rattle.kinds.specs.declared.Single.the-variants.{Close, Local}
 use Rattle.kinds.specs.declared.Verdict.{Verdict}
 use Rattle.kinds.specs.declared.Verdict.the-variants.{Accepted, Refused}
 use Rattle.model.specs.Image.{Image, Key, head, root, flag, state, payload, inlist, field, isCount, partitions, slots, count, get, place, partOf}
-use Rattle.model.specs.Acts.{closing, local, apply}
+use Rattle.model.specs.Acts.{Act, single, apply}
 use Rattle.model.specs.Judge.{check, judge, judgeName}
 use Rattle.model.specs.Questions.{ask}
 use Rattle.model.specs.Chains.{Leads}
@@ -33,8 +34,8 @@ use Rattle.writer.specs.Record.{recordOf}
 use Rattle.catalogue.specs.declared.Closing.the-variants.{Closed, Refused as NotClosed}
 use Rattle.catalogue.specs.declared.Freeing.the-variants.{Freed, Refused as NotFreed}
 use Rattle.catalogue.specs.declared.Asked.the-variants.{Yes, No}
-use Rattle.catalogue.specs.Call.{perform, judgeObject, closed, closeOf, freed as freedBy, localOf, asked, askedOf}
-use Rattle.promises.specs.Calls.{Call, close-call, local-call, actOf, calling}
+use Rattle.catalogue.specs.Call.{perform, judgeAct, judgeObject, callBy, closed, closeOf, freed as freedBy, localOf, asked, askedOf}
+use Rattle.promises.specs.Calls.{Call, single-call, actOf, calling}
 use Rattle.promises.specs.Effects.{OfNoSlot, Exactly, Held, Led, Unled}
 use Rattle.promises.proofs.Calling.{call-judged, call-accepted}
 
@@ -53,20 +54,19 @@ module _ (img : Image) (c : Call) (log : List ℕ) (at : ℕ) (z : (calling img 
   pub call-effect-only : (y : Image) → Effect (get img partitions) (get img slots) (actOf c) img y → y ≡ (calling img c log at) .image
   call-effect-only y e = effect-once (get img partitions) (get img slots) img y _ (actOf c) (sound .length-agrees) e call-effect
 
--- what an accepted call answers, with its record's length
-answered-done : {A : Type 0} (done : ℕ → A) (refused : Refusal → A) (u : Verdict) (bytes : List ℕ) (next img : Image) (log : List ℕ) (at : ℕ)
-    → u ≡ Accepted → at + length bytes ≤ length log → (perform done refused u bytes next img log at) .answer ≡ done (length bytes)
-unfolding perform
-answered-done done refused u bytes next img log at a l = rw (a, le-leb _ _ l)
+-- what an accepted act's call answers, with its record's length
+answered-done : {A : Type 0} (done : ℕ → A) (refused : Refusal → A) (img : Image) (a : Act) (log : List ℕ) (at : ℕ)
+    → judgeAct img a ≡ Accepted → at + length (recordOf a) ≤ length log → (callBy done refused img a log at) .answer ≡ done (length (recordOf a))
+unfolding callBy perform
+answered-done done refused img a log at j l = rw (j, le-leb _ _ l)
 
 -- CLOSE answers the record's length, the count, and the number of objects that it freed
-close-answered : (img : Image) (log : List ℕ) (at : ℕ) → (calling img close-call log at) .number ≡ 0 → (closeOf img log at) .answer ≡ closed img (length (recordOf closing))
-unfolding closeOf
-close-answered img log at z = let m = call-accepted img close-call log at z in answered-done (closed img) NotClosed _ _ _ img log at (m .judged) (m .room)
-
-pub close-answers : (img : Image) (log : List ℕ) (at : ℕ) → (calling img close-call log at) .number ≡ 0
-    → (closeOf img log at) .answer ≡ Closed (length (recordOf closing)) (get img count) (freed (get img partitions * get img slots) img ((closeOf img log at) .image))
-close-answers img log at z = close-answered img log at z ∙ ap (Closed (length (recordOf closing)) (get img count)) (call-effect img close-call log at z .number)
+pub close-answers : (img : Image) (log : List ℕ) (at : ℕ) → (calling img (single-call Close) log at) .number ≡ 0
+    → (closeOf img log at) .answer ≡ Closed (length (recordOf (single Close))) (get img count) (freed (get img partitions * get img slots) img ((closeOf img log at) .image))
+close-answers img log at z =
+    let m = call-accepted img (single-call Close) log at z in
+    answered-done (closed img) NotClosed img (single Close) log at (m .judged) (m .room)
+    ∙ ap (Closed (length (recordOf (single Close))) (get img count)) (call-effect img (single-call Close) log at z .number)
 
 -- LOCAL, of partition p: what it writes is of a slot that p does not keep
 slot : Key → ℕ
@@ -99,28 +99,27 @@ module _ {S p : ℕ} {x : Image} where
   written-slot (frees-payload own none) o = o
   written-slot (frees-field own none) o = o
 
-module _ (img : Image) (p : Partition) (log : List ℕ) (at : ℕ) (z : (calling img (local-call p) log at) .number ≡ 0) where
-  local-answered : (localOf img p log at) .answer ≡ freedBy img (p .0) (length (recordOf (local (p .0))))
-  unfolding localOf
-  local-answered = let m = call-accepted img (local-call p) log at z in answered-done (freedBy img (p .0)) NotFreed _ _ _ img log at (m .judged) (m .room)
-
+module _ (img : Image) (p : Partition) (log : List ℕ) (at : ℕ) (z : (calling img (single-call (Local p)) log at) .number ≡ 0) where
   -- it answers the record's length, and the number of objects that it freed
-  pub local-answers : (localOf img p log at) .answer ≡ Freed (length (recordOf (local (p .0)))) (freed (get img partitions * get img slots) img ((localOf img p log at) .image))
-  local-answers = local-answered ∙ ap (Freed (length (recordOf (local (p .0))))) (call-effect img (local-call p) log at z .number)
+  pub local-answers : (localOf img p log at) .answer ≡ Freed (length (recordOf (single (Local p)))) (freed (get img partitions * get img slots) img ((localOf img p log at) .image))
+  local-answers =
+      let m = call-accepted img (single-call (Local p)) log at z in
+      answered-done (freedBy img p) NotFreed img (single (Local p)) log at (m .judged) (m .room)
+      ∙ ap (Freed (length (recordOf (single (Local p))))) (call-effect img (single-call (Local p)) log at z .number)
 
-  written : Leaves (get img partitions * get img slots) (get img slots) img (Localizes (get img slots) (p .0) img) ((calling img (local-call p) log at) .image)
-  written = call-effect img (local-call p) log at z .words
+  written : Leaves (get img partitions * get img slots) (get img slots) img (Localizes (get img slots) (p .0) img) ((calling img (single-call (Local p)) log at) .image)
+  written = call-effect img (single-call (Local p)) log at z .words
 
   -- it changes words of slots ONLY: no flag, no count of traces, no allowance
-  pub local-rest : (κ : Key) → In (get img partitions * get img slots) κ → OfNoSlot κ → get ((calling img (local-call p) log at) .image) κ ≡ get img κ
+  pub local-rest : (κ : Key) → In (get img partitions * get img slots) κ → OfNoSlot κ → get ((calling img (single-call (Local p)) log at) .image) κ ≡ get img κ
   local-rest κ l o = ⊎-elim (λ w. absurd (written-slot (w .1) o)) (λ q. q) (written .others κ l (no-count κ o))
 
   -- it leaves what p keeps, its mark too, as it was but for its count
   kept-word : (κ : Key) → In (get img partitions * get img slots) κ → isCount κ ≡ false → KeptIn (get img slots) (p .0) img (slot κ)
-      → get ((calling img (local-call p) log at) .image) κ ≡ get img κ
+      → get ((calling img (single-call (Local p)) log at) .image) κ ≡ get img κ
   kept-word κ l c k = ⊎-elim (λ w. absurd (written-unkept (w .1) k)) (λ q. q) (written .others κ l c)
 
-  pub local-keeps : (j : ℕ) → j < get img partitions * get img slots → KeptIn (get img slots) (p .0) img j → Untouched img ((calling img (local-call p) log at) .image) j
+  pub local-keeps : (j : ℕ) → j < get img partitions * get img slots → KeptIn (get img slots) (p .0) img j → Untouched img ((calling img (single-call (Local p)) log at) .image) j
   unfolding slot
   local-keeps j l k =
       record {
@@ -131,16 +130,16 @@ module _ (img : Image) (p : Partition) (log : List ℕ) (at : ℕ) (z : (calling
 
   -- and it frees an object of p EXACTLY where p does not keep it
   pub local-frees : (j : ℕ) → j < get img partitions * get img slots → partOf (get img slots) j ≡ p .0 → get img (state j) ≢ 0
-      → Exactly (get ((calling img (local-call p) log at) .image) (state j) ≡ 0) (KeptIn (get img slots) (p .0) img j → ⊥)
+      → Exactly (get ((calling img (single-call (Local p)) log at) .image) (state j) ≡ 0) (KeptIn (get img slots) (p .0) img j → ⊥)
   local-frees j l own in-use =
       record { only = λ e k. in-use (sym (local-keeps j l k .state-stays) ∙ e); so = λ k. written .written (state j) 0 l (frees own k) }
 
   -- it LEAVES ALONE what a root leads to, and every other partition
-  pub local-spares : Spares (get img partitions) (get img slots) (p .0) img ((calling img (local-call p) log at) .image)
+  pub local-spares : Spares (get img partitions) (get img slots) (p .0) img ((calling img (single-call (Local p)) log at) .image)
   unfolding apply judge
   local-spares =
-      let m = call-accepted img (local-call p) log at z in
-      let j = call-judged img (local-call p) (m .judged) in
+      let m = call-accepted img (single-call (Local p)) log at z in
+      let j = call-judged img (single-call (Local p)) (m .judged) in
       let l : p .0 < get img partitions = ltb-true _ _ (check-true _ _ _ _ (j .1) .0) in
       subst (Spares (get img partitions) (get img slots) (p .0) img) (sym (m .image-is)) (spares (get img partitions) (get img slots) (p .0) l img (sound-true img (j .0)))
 

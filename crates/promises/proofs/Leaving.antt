@@ -13,6 +13,7 @@ use Rattle.kinds.specs.declared.Name.{Name}
 use Rattle.kinds.specs.declared.Partition.{Partition}
 use Rattle.kinds.specs.declared.Operation.{Operation}
 use Rattle.kinds.specs.declared.Refusal.{Refusal}
+use Rattle.kinds.specs.declared.Single.the-variants.{Open, Close, Local}
 use Rattle.kinds.specs.declared.Verdict.{Verdict}
 use Rattle.kinds.specs.declared.Verdict.the-variants.{Accepted}
 use Rattle.model.specs.Image.{Image}
@@ -20,11 +21,11 @@ use Rattle.model.specs.Judge.{check}
 use Rattle.model.specs.Sound.{isSound}
 use Rattle.model.proofs.SoundnessActs.{zeros-unsound}
 use Rattle.lines.specs.Line.{tailOk}
-use Rattle.journal.specs.Recover.{Stand, early, going, stopped, reader, feedAll, refusal, recovery, close, answer, recoverOf}
+use Rattle.journal.specs.Recover.{Stand, early, going, stopped, reader, feedAll, refusal, recovery, atEnd, answer, recoverOf}
 use Rattle.catalogue.specs.Answers.{Said, refusedWith, said, totals, saidClosing, yield, saidFreeing, saidListing, saidReading, saidAsked}
-use Rattle.catalogue.specs.Call.{perform, judgeAct, judgeCommit, judgeForeign, judgeObject, callOf, commitOf, openOf, traceOf, closeOf, localOf, listingOf, readingOf, askedOf}
+use Rattle.catalogue.specs.Call.{perform, judgeAct, judgeCommit, judgeForeign, judgeObject, callBy, commitOf, openOf, traceOf, closeOf, localOf, listingOf, readingOf, askedOf}
 use Rattle.promises.specs.Rows.{Row, given, Found, telled, First, Unsound, NoRoot}
-use Rattle.promises.specs.Calls.{Call, open-call, close-call, local-call, calling}
+use Rattle.promises.specs.Calls.{Call, single-call, calling}
 use Rattle.promises.proofs.Calling.{Refusing, refused-leaves}
 use Rattle.promises.proofs.Refusals.{open-first, close-first, local-first}
 
@@ -33,7 +34,7 @@ pub refused-recovery : (log : List ℕ) (len : ℕ) → (recoverOf log len) .ver
 unfolding recoverOf answer
 refused-recovery log len ne = by (feedAll len (reader early [] 0) log .stand) (feedAll len (reader early [] 0) log .part) ne
   where
-    by : (s : Stand) (t : List ℕ) → (close len s t) .verdict ≢ Accepted → ((close len s t) .image ≡ replicate len 0) × ((close len s t) .kept ≡ 0)
+    by : (s : Stand) (t : List ℕ) → (atEnd len s t) .verdict ≢ Accepted → ((atEnd len s t) .image ≡ replicate len 0) × ((atEnd len s t) .kept ≡ 0)
     by early t ne = (refl, refl)
     by (stopped k l) t ne = (refl, refl)
     by (going h y w n kept) t ne = step (tailOk t) ne
@@ -58,7 +59,7 @@ pub record Refuses-1 (img : Image) : Type 0 where
   pub ask : (n : Name) → saidAsked (askedOf img n) ≡ refusedWith false unsound
 
 unsound-refused : (img : Image) → isSound img ≡ false → Refuses-1 img
-unfolding commitOf callOf closeOf localOf listingOf readingOf askedOf judgeCommit judgeAct judgeForeign judgeObject check perform
+unfolding commitOf callBy listingOf readingOf askedOf judgeCommit judgeAct judgeForeign judgeObject check perform
 unsound-refused img e =
     record {
       commit = λ ops n log at. rw e;
@@ -96,11 +97,11 @@ module _ (img : Image) (log : List ℕ) (at : ℕ) (none : NoRoot img) where
   stopped-by : (c : Call) → (calling img c log at) .number ≢ 0 → Stopped c
   stopped-by c ne = (ne, refused-leaves img c log at ne)
 
-  pub rootless-open : Stopped open-call
-  rootless-open = stopped-by open-call (twelfth _ _ 11 _ _ _ (λ z. omega arith) (open-first img log at))
+  pub rootless-open : Stopped (single-call Open)
+  rootless-open = stopped-by (single-call Open) (twelfth _ _ 11 _ _ _ (λ z. omega arith) (open-first img log at))
 
-  pub rootless-close : Stopped close-call
-  rootless-close = stopped-by close-call (twelfth _ _ 10 _ _ _ (λ z. omega arith) (close-first img log at))
+  pub rootless-close : Stopped (single-call Close)
+  rootless-close = stopped-by (single-call Close) (twelfth _ _ 10 _ _ _ (λ z. omega arith) (close-first img log at))
 
-  pub rootless-local : (p : Partition) → Stopped (local-call p)
-  rootless-local p = stopped-by (local-call p) (twelfth _ _ 7 _ _ _ (λ z. omega arith) (local-first img p log at))
+  pub rootless-local : (p : Partition) → Stopped (single-call (Local p))
+  rootless-local p = stopped-by (single-call (Local p)) (twelfth _ _ 7 _ _ _ (λ z. omega arith) (local-first img p log at))

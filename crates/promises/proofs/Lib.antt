@@ -8,7 +8,7 @@ pub mod Books
 pub mod Recoveries
 pub mod Reached
 pub mod Phases
-pub mod Table
+pub mod Starred
 pub mod Once
 pub mod Effects
 pub mod Outlists

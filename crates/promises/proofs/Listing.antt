@@ -1,22 +1,20 @@
 -- How a row of checks is a list of the table: the first check that fails is the first row whose condition holds; and a list says one thing only.
 -- Assumes nothing.
-use Prim.Native.Nat.{ℕ, _+_, _≤_}
+use Prim.Native.Nat.{ℕ}
 use mathlib.Core.Path.{_≡_, refl, sym, ap, _∙_}
-use mathlib.Core.Bool.{Bool, true, false, cond}
+use mathlib.Core.Bool.{Bool, true, false}
 use mathlib.Core.List.{List, [], _∷_, _++_}
 use mathlib.Core.Logic.{inl, inr, ⊎-elim}
-use lib.Dec.{leb}
 use lib.ListN.{length}
-use borrow.Author.Tests.{leb-true, le-leb}
 use Rattle.kinds.specs.Answers.{refuse}
 use Rattle.kinds.specs.declared.Refusal.{Refusal}
 use Rattle.kinds.specs.declared.Verdict.{Verdict}
-use Rattle.kinds.specs.declared.Verdict.the-variants.{Accepted, Refused}
+use Rattle.kinds.specs.declared.Verdict.the-variants.{Accepted}
 use Rattle.model.specs.Image.{Image}
 use Rattle.model.specs.Judge.{check, andThen}
-use Rattle.writer.specs.Write.{splice}
 use Rattle.catalogue.specs.Answers.{Said, accepted, refusedWith}
-use Rattle.catalogue.specs.Call.{Outcome, noRoom, outcome, perform}
+use Rattle.catalogue.specs.Call.{Outcome, perform}
+use Rattle.catalogue.proofs.Perform.{fully, fully-done, Performed, did, left, performed}
 use Rattle.promises.specs.Rows.{Row, given, telling, Found, telled, First}
 
 -- a test that fails exactly where a condition holds
@@ -72,30 +70,6 @@ found-one (telling n E ∷ rows) d u w f g =
 
 pub exactly : {A : Type 0} (z v : A) (rows : List Row) → Settled rows → (s t : Said A) → First z v rows s → First z v rows t → s ≡ t
 exactly z v rows d s t f g = f .2 ∙ ap (telled z v) (found-one rows d (f .0) (g .0) (f .1) (g .1)) ∙ sym (g .2)
-
--- the verdict of a logged call: its own list, then 17
-abbrev pub fully : Verdict → List ℕ → List ℕ → ℕ → Verdict
-fully u bytes log at = andThen u (check (leb (at + length bytes) (length log)) 17 0 Accepted)
-
-pub fully-done : (u : Verdict) (bytes log : List ℕ) (at : ℕ) → u ≡ Accepted → at + length bytes ≤ length log → fully u bytes log at ≡ Accepted
-unfolding andThen check
-fully-done u bytes log at a l = rw (a, le-leb _ _ l)
-
--- the two ways of a logged call
-pub data Performed {A : Type 0} (done : ℕ → A) (refused : Refusal → A) (u : Verdict) (bytes : List ℕ) (next img : Image) (log : List ℕ) (at : ℕ) : Outcome A → Type 0 where
-  did : u ≡ Accepted → at + length bytes ≤ length log → Performed done refused u bytes next img log at (outcome (done (length bytes)) next (splice log at bytes))
-  left : (r : Refusal) → fully u bytes log at ≡ Refused r → Performed done refused u bytes next img log at (outcome (refused r) img log)
-
-pub performed : {A : Type 0} (done : ℕ → A) (refused : Refusal → A) (u : Verdict) (bytes : List ℕ) (next img : Image) (log : List ℕ) (at : ℕ)
-    → Performed done refused u bytes next img log at (perform done refused u bytes next img log at)
-unfolding perform andThen check
-performed done refused (Refused r) bytes next img log at = left r refl
-performed {A} done refused Accepted bytes next img log at = go (leb (at + length bytes) (length log)) refl
-  where
-    go : (b : Bool) → leb (at + length bytes) (length log) ≡ b
-        → Performed done refused Accepted bytes next img log at (cond b (outcome (done (length bytes)) next (splice log at bytes)) (outcome (refused noRoom) img log))
-    go true e = did refl (leb-true _ _ e)
-    go false e = left noRoom (rw e)
 
 -- what a logged call says, where its two forms of answer say this
 pub said-perform : {A B : Type 0} (say : B → Said A) (z v : A) (done : ℕ → B) (refused : Refusal → B) (u : Verdict) (bytes : List ℕ) (next img : Image) (log : List ℕ) (at : ℕ)

@@ -15,7 +15,7 @@ use Rattle.recovery.specs.declared.Recovery.{Recovery}
 use Rattle.recovery.specs.declared.Recovery.the-variants.{Kept, Refused as NotKept}
 use Rattle.kinds.specs.declared.Verdict.{Verdict}
 use Rattle.kinds.specs.declared.Verdict.the-variants.{Accepted, Refused}
-use Rattle.recovery.specs.Out.{out}
+use Rattle.recovery.specs.Answers.{out}
 use Rattle.recovery.proofs.recover.Kinds as recover
 use Rattle.recovery.proofs.recover.Reads as recover-reads
 use Rattle.reporting.proofs.report.Kinds as report

@@ -3,7 +3,7 @@
 -- again and again, comes to that within P + W traces; and the close keeps every object that a root leads to and frees every object that no chain leads to, unless a
 -- local collection has.
 -- Assumes nothing.
-use Prim.Native.Nat.{ℕ, suc, _*_, _<_}
+use Prim.Native.Nat.{ℕ, suc, _<_}
 use mathlib.Core.Path.{_≡_, refl, sym, ap, _∙_, subst}
 use mathlib.Core.Bool.{Bool, true, false}
 use mathlib.Core.List.{List, [], _∷_}
@@ -12,11 +12,15 @@ use native.Mathlib.Omega.{arith}
 use lib.ListN.{length}
 use Rattle.loops.proofs.Tests.{eq-or-ne}
 use Rattle.kinds.specs.Answers.{refuse}
+use Rattle.kinds.specs.Names.{partition}
 use Rattle.kinds.specs.declared.Partition.{Partition}
+use Rattle.kinds.specs.declared.Refusal.{Refusal}
+use Rattle.kinds.specs.declared.Single.{Single}
+use Rattle.kinds.specs.declared.Single.the-variants.{Trace, Close}
 use Rattle.kinds.specs.declared.Verdict.{Verdict}
 use Rattle.kinds.specs.declared.Verdict.the-variants.{Accepted}
-use Rattle.model.specs.Image.{Image, partitions, slots, phase, count, get, blank}
-use Rattle.model.specs.Acts.{Act, closing, trace, notClean, unmarked, apply}
+use Rattle.model.specs.Image.{Image, partitions, phase, get, blank}
+use Rattle.model.specs.Acts.{Act, single, notClean, apply}
 use Rattle.model.specs.History.{Run, acted}
 use Rattle.model.specs.Judge.{check, inLimits, rooted, lowest, judge}
 use Rattle.model.proofs.Demand.{Demand-3, demand-3}
@@ -31,16 +35,17 @@ use Rattle.journal.specs.Log.{replay}
 use Rattle.journal.proofs.Demand.{replayed}
 use Rattle.catalogue.specs.declared.Answer.the-variants.{Done, Refused as NotDone}
 use Rattle.catalogue.specs.declared.Closing.the-variants.{Refused as NotClosed}
-use Rattle.catalogue.specs.Answers.{Said, totals, said, saidClosing}
-use Rattle.catalogue.specs.Call.{judgeAct, callOf, traceOf, closed, closeOf}
+use Rattle.catalogue.specs.Answers.{Said, accepted, refusedWith, totals, said, saidClosing}
+use Rattle.catalogue.specs.Call.{judgeAct, callBy, traceOf, closed}
+use Rattle.catalogue.proofs.Perform.{fully, fully-done}
 use Rattle.promises.specs.Rows.{telled, NoRoot, Lowest}
-use Rattle.promises.specs.Calls.{Call, close-call, trace-call, actOf, calling, Made}
+use Rattle.promises.specs.Calls.{Call, single-call, actOf, calling, Made}
 use Rattle.promises.specs.World.{World, logged}
 use Rattle.promises.specs.Phase.{Room, Traceable, Closable, AllClean, LowestFirst, all-clean, tracing, Demand-3-calls}
 use Rattle.promises.proofs.Calling.{Beside, beside-is, beside-not, fully-beside, call-beside, Ways, done, not-done, call-ways}
 use Rattle.promises.proofs.Conditions.{found-lowest, test-rooted}
 use Rattle.promises.proofs.Headed.{Headed, reached-headed, call-leaves}
-use Rattle.promises.proofs.Listing.{fully, fully-done, said-perform}
+use Rattle.promises.proofs.Listing.{said-perform}
 use Rattle.promises.proofs.Reached.{replayed-run, replayed-headed, reached}
 
 -- a number between 6 and 17 that its act's judge does not give, a call does not answer
@@ -93,23 +98,23 @@ module _ (P S : ℕ) (good : inLimits P S ≡ true) where
     unfolding judgeAct check
     call-fine a j = rw (reached-passes P S good r, headed .partitions-are, headed .slots-are) j
 
-    trace-given : (p : Partition) → judge P S y (trace (p .0)) ≡ Accepted → Traceable y p
-    unfolding callOf
-    trace-given p j log at room =
-        let a : Act = trace (p .0) in
-        said-perform said 0 (length (recordOf a)) Done NotDone (judgeAct y a) (recordOf a) _ y log at refl (λ r. refl)
-        ∙ ap (telled 0 (length (recordOf a))) (fully-done _ (recordOf a) log at (call-fine a j) room)
+    call-given : {A B : Type 0} (say : B → Said A) (z v : A) (does : ℕ → B) (refuses : Refusal → B) (a : Single)
+        → say (does (length (recordOf (single a)))) ≡ accepted v → ((r : Refusal) → say (refuses r) ≡ refusedWith z r) → judge P S y (single a) ≡ Accepted
+        → (log : List ℕ) (at : ℕ) → Room (single a) log at → say ((callBy does refuses y (single a) log at) .answer) ≡ accepted v
+    unfolding callBy
+    call-given say z v does refuses a d n j log at room =
+        said-perform say z v does refuses (judgeAct y (single a)) (recordOf (single a)) _ y log at d n
+        ∙ ap (telled z v) (fully-done _ (recordOf (single a)) log at (call-fine (single a) j) room)
 
-    close-given : judge P S y closing ≡ Accepted → Closable y
-    unfolding closeOf
-    close-given j log at room =
-        let v = totals (length (recordOf closing)) (get y count) (unmarked (get y partitions * get y slots) y) in
-        said-perform saidClosing (totals 0 0 0) v (closed y) NotClosed (judgeAct y closing) (recordOf closing) _ y log at refl (λ r. refl)
-        ∙ ap (telled (totals 0 0 0) v) (fully-done _ (recordOf closing) log at (call-fine closing j) room)
+    trace-given : (p : Partition) → judge P S y (single (Trace p)) ≡ Accepted → Traceable y p
+    trace-given p j log at room = call-given said 0 _ Done NotDone (Trace p) refl (λ r. refl) j log at room
 
-    trace-leaves : (p : Partition) → judge P S y (trace (p .0)) ≡ Accepted → (log : List ℕ) (at : ℕ) → Room (trace (p .0)) log at
-        → (traceOf y p log at) .image ≡ apply P S y (trace (p .0))
-    trace-leaves p j log at room = call-leaves P S y (trace-call p) log at headed (ap (λ (s : Said ℕ). s .number) (trace-given p j log at room)) .1
+    close-given : judge P S y (single Close) ≡ Accepted → Closable y
+    close-given j log at room = call-given saidClosing (totals 0 0 0) _ (closed y) NotClosed Close refl (λ r. refl) j log at room
+
+    trace-leaves : (p : Partition) → judge P S y (single (Trace p)) ≡ Accepted → (log : List ℕ) (at : ℕ) → Room (single (Trace p)) log at
+        → (traceOf y p log at) .image ≡ apply P S y (single (Trace p))
+    trace-leaves p j log at room = call-leaves P S y (single-call (Trace p)) log at headed (ap (λ (s : Said ℕ). s .number) (trace-given p j log at room)) .1
 
     -- the lowest partition that is not clean, and none
     lowest-is : notClean P y ≢ 0 → Lowest y (lowest P y)
@@ -134,8 +139,8 @@ module _ (P S : ℕ) (good : inLimits P S ≡ true) where
   by-calls : {acts : List Act} {y z : Image} {ps : List ℕ} → Run P S (blank P S) acts y → ActsLowestFirst P S y ps z → Called y ps z
   by-calls {acts} r (none-left e) = record { order = []; as-many = refl; lowest-first = all-clean (none-is r e); acts = acts; run = r }
   by-calls r (traced {y = y} {z = z} ne j rest) =
-      let p : Partition = record { 0 = lowest P y } in
-      let c = by-calls (acted (trace (lowest P y)) r j) rest in
+      let p : Partition = partition (lowest P y) in
+      let c = by-calls (acted (single (Trace p)) r j) rest in
       record {
         order = p ∷ c .order;
         as-many = ap (λ (n : ℕ). suc n) (c .as-many);
@@ -167,7 +172,7 @@ demand-3-calls {h = h} {y = y} world e =
       bound = d .bound;
       counted = d .counted;
       sound = d .sound;
-      traceable = λ p l f. trace-given (h .P) (h .S) good r p (d .traceable (p .0) l f);
+      traceable = λ p l f. trace-given (h .P) (h .S) good r p (d .traceable p l f);
       closable = λ f n. close-given (h .P) (h .S) good r (d .closable (is-none (h .P) (h .S) good r f) (some-root y n));
       progress =
           record {
@@ -178,8 +183,8 @@ demand-3-calls {h = h} {y = y} world e =
             closable = λ n. close-given (h .P) (h .S) good (c .run) (d .progress .closable (some-root y n));
           };
       never = call-never (h .P) (h .S) y k (d .never);
-      keeps = λ log at z. let c = call-leaves (h .P) (h .S) y close-call log at k z in rw (c .1) (d .keeps (c .0));
-      frees = λ log at z. let c = call-leaves (h .P) (h .S) y close-call log at k z in rw (c .1) (d .frees (c .0));
-      gone = λ log at z. let c = call-leaves (h .P) (h .S) y close-call log at k z in rw (c .1) (d .gone (c .0));
-      sound-after = λ log at z. let c = call-leaves (h .P) (h .S) y close-call log at k z in rw (c .1) (d .sound-after (c .0));
+      keeps = λ log at z. let c = call-leaves (h .P) (h .S) y (single-call Close) log at k z in rw (c .1) (d .keeps (c .0));
+      frees = λ log at z. let c = call-leaves (h .P) (h .S) y (single-call Close) log at k z in rw (c .1) (d .frees (c .0));
+      gone = λ log at z. let c = call-leaves (h .P) (h .S) y (single-call Close) log at k z in rw (c .1) (d .gone (c .0));
+      sound-after = λ log at z. let c = call-leaves (h .P) (h .S) y (single-call Close) log at k z in rw (c .1) (d .sound-after (c .0));
     }

@@ -21,7 +21,7 @@ use Rattle.model.proofs.SoundnessActs.{run-kept, reached-passes, zeros-unsound}
 use Rattle.writer.specs.Record.{Rule, newest}
 use Rattle.journal.specs.Log.{replay}
 use Rattle.journal.specs.Recover.{Recovered, recoverOf}
-use Rattle.journal.proofs.Any.{any-bytes}
+use Rattle.journal.proofs.AnyBytes.{any-bytes}
 use Rattle.journal.proofs.Demand.{replayed, history-of, history-new, kept-is}
 use Rattle.promises.specs.Calls.{Call, actOf, Worded, formatting, calling}
 use Rattle.promises.specs.World.{Origin, as-lent, emptied, logged, World, lent, formatted, unformatted, called, refused, recovered, unrecovered, Lent, Emptied, Replayed, Stands}

@@ -18,7 +18,7 @@ use Rattle.writer.specs.Record.{Rule}
 use Rattle.journal.specs.Log.{replay, History}
 use Rattle.journal.specs.Recover.{Recovered, recoverOf}
 use Rattle.journal.specs.Refusals.{Refuses as Judges}
-use Rattle.journal.proofs.Any.{any-bytes, refused-so}
+use Rattle.journal.proofs.AnyBytes.{any-bytes, refused-so}
 use Rattle.journal.proofs.Demand.{kept-is}
 use Rattle.journal.proofs.Placing.{Counted}
 use Rattle.journal.proofs.Refusals.{refuses-as, refused-only}

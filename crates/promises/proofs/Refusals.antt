@@ -18,13 +18,15 @@ use Rattle.kinds.specs.declared.Name.{Name}
 use Rattle.kinds.specs.declared.Partition.{Partition}
 use Rattle.kinds.specs.declared.Operation.{Operation}
 use Rattle.kinds.specs.declared.Operation.the-variants.{New, Set, Val, Root}
+use Rattle.kinds.specs.declared.Single.{Single}
+use Rattle.kinds.specs.declared.Single.the-variants.{Open, Trace, Close, Local}
 use Rattle.kinds.specs.declared.Record.{Record}
 use Rattle.kinds.specs.declared.Outlist.{Outlist}
 use Rattle.kinds.specs.declared.Refusal.{Refusal}
 use Rattle.kinds.specs.declared.Verdict.{Verdict}
 use Rattle.kinds.specs.declared.Verdict.the-variants.{Accepted, Refused}
 use Rattle.model.specs.Image.{Image, partitions, slots, count, allowance, get, lengthOf, place}
-use Rattle.model.specs.Acts.{Act, commit, opening, closing, trace, local, perform, unmarked, localFreed}
+use Rattle.model.specs.Acts.{Act, commit, single, perform, unmarked, localFreed}
 use Rattle.model.specs.Judge.{check, judgeFormat, judgeOp, judgeOps, lowest, judge, judgeOutlist, judgeName}
 use Rattle.model.specs.Questions.{readOf, ask}
 use Rattle.model.specs.Outlist.{outlist}
@@ -35,10 +37,11 @@ use Rattle.catalogue.specs.declared.Answer.the-variants.{Done, Refused as NotDo
 use Rattle.catalogue.specs.declared.Closing.the-variants.{Refused as NotClosed}
 use Rattle.catalogue.specs.declared.Freeing.the-variants.{Refused as NotFreed}
 use Rattle.catalogue.specs.Answers.{Said, accepted, refusedWith, said, Totals, totals, saidClosing, Yield, yield, saidFreeing, saidReading, saidListing, saidAsked}
-use Rattle.catalogue.specs.Call.{perform as perform-call, judgeAct, judgeCommit, judgeForeign, judgeObject, formatOf, callOf, commitOf, openOf, traceOf, closed, closeOf, freed, localOf, listing, listingOf, reading, readingOf, asked, askedOf}
+use Rattle.catalogue.specs.Call.{perform as perform-call, judgeAct, judgeCommit, judgeForeign, judgeObject, formatOf, callBy, commitOf, openOf, traceOf, closed, closeOf, freed, localOf, listing, listingOf, reading, readingOf, asked, askedOf}
+use Rattle.catalogue.proofs.Perform.{fully}
 use Rattle.promises.specs.Rows.{Row, given, Found, telled, First, Unsound, WrongSize, WrongCount, NoRoom, Lowest, formatRows, operationRows, operationsRows, actRows, callRows, commitRows, outlistRows, objectRows}
 use Rattle.promises.proofs.Conditions.{test-lt, test-le, test-ne, test-both, test-as, test-sound, test-size, test-name, test-target, test-free, test-used, test-target-used, test-open, test-shut, test-rooted, test-unclean, found-lowest, none-lowest, one-lowest, test-led}
-use Rattle.promises.proofs.Listing.{Tests, Settled, settled-then, found-none, found-check, found-tell, found-then, exactly, fully, said-perform}
+use Rattle.promises.proofs.Listing.{Tests, Settled, settled-then, found-none, found-check, found-tell, found-then, exactly, said-perform}
 
 -- 17, judged last
 found-room : (bytes log : List ℕ) (at : ℕ) → Found (given 17 0 (NoRoom bytes at log) ∷ []) (check (leb (at + length bytes) (length log)) 17 0 Accepted)
@@ -78,24 +81,24 @@ pub found-act : (img : Image) (a : Act) → Counted a → Found (actRows img a) 
 unfolding judge
 found-act img (commit os) c =
     subst (Found (actRows img (commit os))) (sym (judge-commit (get img partitions) (get img slots) img os (c .0) (c .1))) (found-operations (get img partitions) (get img slots) img 1 os)
-found-act img opening c = found-check _ 11 0 _ _ _ (test-shut img) (found-check _ 12 0 _ _ _ (test-rooted img) found-none)
-found-act img (trace p) c =
+found-act img (single Open) c = found-check _ 11 0 _ _ _ (test-shut img) (found-check _ 12 0 _ _ _ (test-rooted img) found-none)
+found-act img (single (Trace p)) c =
     found-check _ 10 0 _ _ _ (test-open img)
-    (found-check _ 7 0 _ _ _ (test-lt p (get img partitions))
-    (found-check _ 13 0 _ _ _ (test-unclean img p) (found-check _ 15 0 _ _ _ (test-ne (get img count) (get img allowance)) found-none)))
-found-act img closing c =
+    (found-check _ 7 0 _ _ _ (test-lt (p .0) (get img partitions))
+    (found-check _ 13 0 _ _ _ (test-unclean img (p .0)) (found-check _ 15 0 _ _ _ (test-ne (get img count) (get img allowance)) found-none)))
+found-act img (single Close) c =
     found-check _ 10 0 _ _ _ (test-open img)
     (found-check _ 12 0 _ _ _ (test-rooted img)
     (found-tell _ 14 (lowest (get img partitions) img) _ (Lowest img) _ (λ e. found-lowest img (eqb-false _ _ e)) (λ e. none-lowest img (eqb-true _ _ e))
     (found-check _ 16 0 _ _ _ (test-led img) found-none)))
-found-act img (local p) c = found-check _ 7 0 _ _ _ (test-lt p (get img partitions)) (found-check _ 12 0 _ _ _ (test-rooted img) found-none)
+found-act img (single (Local p)) c = found-check _ 7 0 _ _ _ (test-lt (p .0) (get img partitions)) (found-check _ 12 0 _ _ _ (test-rooted img) found-none)
 
 pub settled-act : (img : Image) (a : Act) → Settled (actRows img a)
 settled-act img (commit os) = settled-operations (get img partitions) (get img slots) img 1 os
-settled-act img opening = tt
-settled-act img (trace p) = tt
-settled-act img closing = (one-lowest img, tt)
-settled-act img (local p) = tt
+settled-act img (single Open) = tt
+settled-act img (single (Trace p)) = tt
+settled-act img (single Close) = (one-lowest img, tt)
+settled-act img (single (Local p)) = tt
 
 -- a logged call: its own list, then 17
 logged-first : {A B : Type 0} (say : B → Said A) (z v : A) (done : ℕ → B) (refused : Refusal → B) (u : Verdict) (bytes : List ℕ) (next img : Image) (log : List ℕ) (at : ℕ) (rows : List Row)
@@ -103,10 +106,6 @@ logged-first : {A B : Type 0} (say : B → Said A) (z v : A) (done : ℕ → B) 
     → First z v (rows ++ (given 17 0 (NoRoom bytes at log) ∷ [])) (say ((perform-call done refused u bytes next img log at) .answer))
 logged-first say z v done refused u bytes next img log at rows d n f =
     (fully u bytes log at, found-then rows _ u _ f (found-room bytes log at), said-perform say z v done refused u bytes next img log at d n)
-
-found-call : (img : Image) (a : Act) → Counted a → Found (given 1 0 (Unsound img) ∷ actRows img a) (judgeAct img a)
-unfolding judgeAct
-found-call img a c = found-check _ 1 0 _ _ _ (test-sound img) (found-act img a c)
 
 settled-call : (img : Image) (a : Act) (log : List ℕ) (at : ℕ) → Settled (callRows img a log at)
 settled-call img a log at = settled-then (actRows img a) _ (settled-act img a) tt
@@ -158,49 +157,57 @@ pub commit-exactly : (img : Image) (ops : List Operation) (n : ℕ) (log : List 
 commit-exactly img ops n log at full s f =
     exactly 0 (length (recordOf (commit (take n ops)))) (commitRows img ops n log at) (settled-call img (commit (take n ops)) log at) s _ f (commit-first img ops n log at full)
 
--- OPEN
-pub open-first : (img : Image) (log : List ℕ) (at : ℕ) → First 0 (length (recordOf opening)) (callRows img opening log at) (said ((openOf img log at) .answer))
-unfolding callOf
-open-first img log at = logged-first said 0 _ Done NotDone _ (recordOf opening) _ img log at _ refl (λ r. refl) (found-call img opening tt)
+-- AN ACT WHOSE RECORD IS A SINGLE LINE, whatever the form of its answer
+call-first : {A B : Type 0} (say : B → Said A) (z v : A) (done : ℕ → B) (refused : Refusal → B) (img : Image) (a : Single) (log : List ℕ) (at : ℕ)
+    → say (done (length (recordOf (single a)))) ≡ accepted v → ((r : Refusal) → say (refused r) ≡ refusedWith z r)
+    → First z v (callRows img (single a) log at) (say ((callBy done refused img (single a) log at) .answer))
+unfolding callBy judgeAct
+call-first say z v done refused img a log at d n =
+    logged-first say z v done refused _ (recordOf (single a)) _ img log at (given 1 0 (Unsound img) ∷ actRows img (single a)) d n
+    (found-check _ 1 0 _ _ _ (test-sound img) (found-act img (single a) tt))
 
-pub open-exactly : (img : Image) (log : List ℕ) (at : ℕ) (s : Said ℕ) → First 0 (length (recordOf opening)) (callRows img opening log at) s → s ≡ said ((openOf img log at) .answer)
-open-exactly img log at s f = exactly 0 (length (recordOf opening)) (callRows img opening log at) (settled-call img opening log at) s _ f (open-first img log at)
+call-exactly : {A : Type 0} (z v : A) (img : Image) (a : Single) (log : List ℕ) (at : ℕ) (s t : Said A)
+    → First z v (callRows img (single a) log at) s → First z v (callRows img (single a) log at) t → s ≡ t
+call-exactly z v img a log at s t f g = exactly z v (callRows img (single a) log at) (settled-call img (single a) log at) s t f g
+
+-- OPEN
+pub open-first : (img : Image) (log : List ℕ) (at : ℕ) → First 0 (length (recordOf (single Open))) (callRows img (single Open) log at) (said ((openOf img log at) .answer))
+open-first img log at = call-first said 0 _ Done NotDone img Open log at refl (λ r. refl)
+
+pub open-exactly : (img : Image) (log : List ℕ) (at : ℕ) (s : Said ℕ) → First 0 (length (recordOf (single Open))) (callRows img (single Open) log at) s
+    → s ≡ said ((openOf img log at) .answer)
+open-exactly img log at s f = call-exactly 0 _ img Open log at s _ f (open-first img log at)
 
 -- TRACE
 pub trace-first : (img : Image) (p : Partition) (log : List ℕ) (at : ℕ)
-    → First 0 (length (recordOf (trace (p .0)))) (callRows img (trace (p .0)) log at) (said ((traceOf img p log at) .answer))
-unfolding callOf
-trace-first img p log at = logged-first said 0 _ Done NotDone _ (recordOf (trace (p .0))) _ img log at _ refl (λ r. refl) (found-call img (trace (p .0)) tt)
+    → First 0 (length (recordOf (single (Trace p)))) (callRows img (single (Trace p)) log at) (said ((traceOf img p log at) .answer))
+trace-first img p log at = call-first said 0 _ Done NotDone img (Trace p) log at refl (λ r. refl)
 
-pub trace-exactly : (img : Image) (p : Partition) (log : List ℕ) (at : ℕ) (s : Said ℕ) → First 0 (length (recordOf (trace (p .0)))) (callRows img (trace (p .0)) log at) s
+pub trace-exactly : (img : Image) (p : Partition) (log : List ℕ) (at : ℕ) (s : Said ℕ) → First 0 (length (recordOf (single (Trace p)))) (callRows img (single (Trace p)) log at) s
     → s ≡ said ((traceOf img p log at) .answer)
-trace-exactly img p log at s f =
-    exactly 0 (length (recordOf (trace (p .0)))) (callRows img (trace (p .0)) log at) (settled-call img (trace (p .0)) log at) s _ f (trace-first img p log at)
+trace-exactly img p log at s f = call-exactly 0 _ img (Trace p) log at s _ f (trace-first img p log at)
 
 -- CLOSE, which answers the count and the number freed
 pub close-first : (img : Image) (log : List ℕ) (at : ℕ)
-    → First (totals 0 0 0) (totals (length (recordOf closing)) (get img count) (unmarked (get img partitions * get img slots) img)) (callRows img closing log at)
+    → First (totals 0 0 0) (totals (length (recordOf (single Close))) (get img count) (unmarked (get img partitions * get img slots) img)) (callRows img (single Close) log at)
     (saidClosing ((closeOf img log at) .answer))
-unfolding closeOf
-close-first img log at = logged-first saidClosing (totals 0 0 0) _ (closed img) NotClosed _ (recordOf closing) _ img log at _ refl (λ r. refl) (found-call img closing tt)
+close-first img log at = call-first saidClosing (totals 0 0 0) _ (closed img) NotClosed img Close log at refl (λ r. refl)
 
 pub close-exactly : (img : Image) (log : List ℕ) (at : ℕ) (s : Said Totals)
-    → First (totals 0 0 0) (totals (length (recordOf closing)) (get img count) (unmarked (get img partitions * get img slots) img)) (callRows img closing log at) s
+    → First (totals 0 0 0) (totals (length (recordOf (single Close))) (get img count) (unmarked (get img partitions * get img slots) img)) (callRows img (single Close) log at) s
     → s ≡ saidClosing ((closeOf img log at) .answer)
-close-exactly img log at s f = exactly (totals 0 0 0) _ (callRows img closing log at) (settled-call img closing log at) s _ f (close-first img log at)
+close-exactly img log at s f = call-exactly (totals 0 0 0) _ img Close log at s _ f (close-first img log at)
 
 -- LOCAL, which answers the number freed
 pub local-first : (img : Image) (p : Partition) (log : List ℕ) (at : ℕ)
-    → First (yield 0 0) (yield (length (recordOf (local (p .0)))) (localFreed (get img partitions) (get img slots) (p .0) img)) (callRows img (local (p .0)) log at)
+    → First (yield 0 0) (yield (length (recordOf (single (Local p)))) (localFreed (get img partitions) (get img slots) (p .0) img)) (callRows img (single (Local p)) log at)
     (saidFreeing ((localOf img p log at) .answer))
-unfolding localOf
-local-first img p log at =
-    logged-first saidFreeing (yield 0 0) _ (freed img (p .0)) NotFreed _ (recordOf (local (p .0))) _ img log at _ refl (λ r. refl) (found-call img (local (p .0)) tt)
+local-first img p log at = call-first saidFreeing (yield 0 0) _ (freed img p) NotFreed img (Local p) log at refl (λ r. refl)
 
 pub local-exactly : (img : Image) (p : Partition) (log : List ℕ) (at : ℕ) (s : Said Yield)
-    → First (yield 0 0) (yield (length (recordOf (local (p .0)))) (localFreed (get img partitions) (get img slots) (p .0) img)) (callRows img (local (p .0)) log at) s
+    → First (yield 0 0) (yield (length (recordOf (single (Local p)))) (localFreed (get img partitions) (get img slots) (p .0) img)) (callRows img (single (Local p)) log at) s
     → s ≡ saidFreeing ((localOf img p log at) .answer)
-local-exactly img p log at s f = exactly (yield 0 0) _ (callRows img (local (p .0)) log at) (settled-call img (local (p .0)) log at) s _ f (local-first img p log at)
+local-exactly img p log at s f = call-exactly (yield 0 0) _ img (Local p) log at s _ f (local-first img p log at)
 
 -- OUTLIST
 found-outlist : (img : Image) (p : Partition) → Found (outlistRows img (p .0)) (judgeForeign img p)

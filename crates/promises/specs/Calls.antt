@@ -2,10 +2,11 @@
 use Prim.Native.Nat.{ℕ}
 use mathlib.Core.List.{List}
 use lib.ListN.{take}
-use Rattle.kinds.specs.declared.Partition.{Partition}
 use Rattle.kinds.specs.declared.Operation.{Operation}
+use Rattle.kinds.specs.declared.Single.{Single}
+use Rattle.kinds.specs.declared.Single.the-variants.{Open, Trace, Close, Local}
 use Rattle.model.specs.Image.{Image}
-use Rattle.model.specs.Acts.{Act, commit, opening, closing, trace, local}
+use Rattle.model.specs.Acts.{Act, commit, single}
 use Rattle.writer.specs.Record.{opsOf}
 use Rattle.journal.specs.Log.{Payloads}
 use Rattle.catalogue.specs.declared.Answer.{Answer}
@@ -14,19 +15,15 @@ use Rattle.catalogue.specs.declared.Freeing.{Freeing}
 use Rattle.catalogue.specs.Answers.{Said, said, saidClosing, saidFreeing}
 use Rattle.catalogue.specs.Call.{Outcome, formatOf, commitOf, openOf, traceOf, closeOf, localOf}
 
--- a call on a heap, with its arguments; of a commit's 32 operations the first n count
+-- a call on a heap, with its arguments: a commit, of whose 32 operations the first n count, or an act whose record is a single line
 pub data Call : Type 0 where
   commit-call : List Operation → ℕ → Call
-  open-call close-call : Call
-  trace-call local-call : Partition → Call
+  single-call : Single → Call
 
 -- the act that it is
 abbrev pub actOf : Call → Act
 actOf (commit-call ops n) = commit (take n ops)
-actOf open-call = opening
-actOf (trace-call p) = trace (p .0)
-actOf close-call = closing
-actOf (local-call p) = local (p .0)
+actOf (single-call a) = single a
 
 -- payloads are 32-bit words (in code they always are)
 abbrev pub Worded : Call → Type 0
@@ -40,7 +37,7 @@ pub record Made : Type 0 where
   pub log : List ℕ
 
 -- by what its answer says, and which of the values there is the length
-abbrev pub madeOf : {A : Type 0} → Said A → (A → ℕ) → Image → List ℕ → Made
+abbrev madeOf : {A : Type 0} → Said A → (A → ℕ) → Image → List ℕ → Made
 madeOf s len img log = record { number = s .number; length = len (s .value); image = img; log = log }
 
 abbrev pub answered : Outcome Answer → Made
@@ -58,7 +55,7 @@ formatting img P S log at = answered (formatOf img P S log at)
 
 abbrev pub calling : Image → Call → List ℕ → ℕ → Made
 calling img (commit-call ops n) log at = answered (commitOf img ops n log at)
-calling img open-call log at = answered (openOf img log at)
-calling img (trace-call p) log at = answered (traceOf img p log at)
-calling img close-call log at = closed-up (closeOf img log at)
-calling img (local-call p) log at = freed-up (localOf img p log at)
+calling img (single-call Open) log at = answered (openOf img log at)
+calling img (single-call (Trace p)) log at = answered (traceOf img p log at)
+calling img (single-call Close) log at = closed-up (closeOf img log at)
+calling img (single-call (Local p)) log at = freed-up (localOf img p log at)

@@ -1,17 +1,17 @@
 -- The paper's log, and what a table of numbers says: calls made one after the other, and what each replies.
-use Prim.Native.Nat.{ℕ, _+_, _≤_}
+use Prim.Native.Nat.{ℕ, _+_}
 use mathlib.Core.Bool.{cond}
 use mathlib.Core.List.{List, [], _∷_, _++_}
-use mathlib.Core.Path.{_≡_}
 use lib.Dec.{eqb}
 use lib.ListN.{length, take, replicate}
-use Rattle.kinds.specs.Names.{mostOperations}
+use Rattle.kinds.specs.Names.{mostOperations, partition}
 use Rattle.kinds.specs.Operations.{unroot}
 use Rattle.kinds.specs.declared.Operation.{Operation}
+use Rattle.kinds.specs.declared.Single.the-variants.{Open, Trace, Close, Local}
 use Rattle.model.specs.Image.{Image, allowance, get}
 use Rattle.catalogue.specs.Answers.{Said, said, saidClosing, saidFreeing}
 use Rattle.catalogue.specs.Call.{formatOf, commitOf, openOf, traceOf, closeOf, localOf}
-use Rattle.promises.specs.Calls.{Call, commit-call, open-call, trace-call, close-call, local-call, Made, formatting, calling}
+use Rattle.promises.specs.Calls.{Call, commit-call, single-call, Made, formatting, calling}
 
 -- the log of the paper's example, byte by byte, under a heading of edition e
 abbrev pub paperLog : ℕ → List ℕ
@@ -86,14 +86,14 @@ abbrev pub reply : {A : Type 0} → Said A → Reply → Reply
 reply s r = cond (eqb (s .number) 0) r (refused (s .number) (s .extra))
 
 -- a call's reply, logged at a place of a buffer; the allowance is word 4 of the image that an open leaves
-abbrev pub replied : Image → Call → List ℕ → ℕ → Reply
+abbrev replied : Image → Call → List ℕ → ℕ → Reply
 replied img (commit-call ops n) log at = reply (said ((commitOf img ops n log at) .answer)) done
-replied img open-call log at = reply (said ((openOf img log at) .answer)) (opened (get ((openOf img log at) .image) allowance))
-replied img (trace-call p) log at = reply (said ((traceOf img p log at) .answer)) done
-replied img close-call log at =
+replied img (single-call Open) log at = reply (said ((openOf img log at) .answer)) (opened (get ((openOf img log at) .image) allowance))
+replied img (single-call (Trace p)) log at = reply (said ((traceOf img p log at) .answer)) done
+replied img (single-call Close) log at =
     let s = saidClosing ((closeOf img log at) .answer) in
     reply s (closed (s .value .count) (s .value .freed))
-replied img (local-call p) log at =
+replied img (single-call (Local p)) log at =
     let s = saidFreeing ((localOf img p log at) .answer) in
     reply s (freed (s .value .freed))
 
@@ -118,7 +118,7 @@ begun =
 abbrev pub next : Session → Call → Session
 next s c = after (s .replies) (replied (s .image) c (s .log) (s .end)) (calling (s .image) c (s .log) (s .end)) (s .end)
 
-abbrev pub continued : Session → List Call → Session
+abbrev continued : Session → List Call → Session
 continued s [] = s
 continued s (c ∷ cs) = continued (next s c) cs
 
@@ -126,22 +126,18 @@ continued s (c ∷ cs) = continued (next s c) cs
 abbrev pub session : List Call → Session
 session cs = continued begun cs
 
--- a commit of some operations, the first of 32; a trace and a local collection of a partition
+-- a commit of some operations, the first of 32; the opening and the closing of a phase; a trace and a local collection of a partition
 abbrev pub committing : List Operation → Call
 committing os = commit-call (take mostOperations (os ++ replicate mostOperations (unroot 0))) (length os)
 
+abbrev pub opening : Call
+opening = single-call Open
+
+abbrev pub closing : Call
+closing = single-call Close
+
 abbrev pub tracing : ℕ → Call
-tracing p = trace-call (record { 0 = p })
+tracing p = single-call (Trace (partition p))
 
 abbrev pub localizing : ℕ → Call
-localizing p = local-call (record { 0 = p })
-
--- a row of a table: what is computed and what it must be; or the same of every number from a to b
-pub data Case : Type 1 where
-  case : {A : Type 0} → A → A → Case
-  from-to : {A : Type 0} → ℕ → ℕ → (ℕ → A) → A → Case
-
-abbrev pub Agree : List Case → Type 0
-Agree [] = Unit {0}
-Agree (case is must ∷ rest) = (is ≡ must) × Agree rest
-Agree (from-to a b is must ∷ rest) = ((k : ℕ) → a ≤ k → k ≤ b → is k ≡ must) × Agree rest
+localizing p = single-call (Local (partition p))

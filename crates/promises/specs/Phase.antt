@@ -6,8 +6,9 @@ use mathlib.Core.Path.{_≡_}
 use mathlib.Core.Logic.{_≢_, _⊎_}
 use lib.ListN.{length}
 use Rattle.kinds.specs.declared.Partition.{Partition}
+use Rattle.kinds.specs.declared.Single.the-variants.{Open, Trace, Close}
 use Rattle.model.specs.Image.{Image, flag, state, partitions, slots, count, get}
-use Rattle.model.specs.Acts.{Act, opening, closing, trace, unmarked}
+use Rattle.model.specs.Acts.{Act, single, unmarked}
 use Rattle.model.specs.Chains.{Leads, Stays, ChainToBorn, ChainTo, birthNow}
 use Rattle.model.specs.History.{traces, Unclosed, unrooted}
 use Rattle.model.specs.Sound.{isSound}
@@ -16,7 +17,7 @@ use Rattle.journal.specs.Log.{replay}
 use Rattle.catalogue.specs.Answers.{accepted, totals, said, saidClosing}
 use Rattle.catalogue.specs.Call.{traceOf, closeOf}
 use Rattle.promises.specs.Rows.{NoRoot, Clean, Lowest}
-use Rattle.promises.specs.Calls.{Call, close-call, calling}
+use Rattle.promises.specs.Calls.{Call, single-call, calling}
 
 -- log room: the act's record fits from the place
 abbrev pub Room : Act → List ℕ → ℕ → Type 0
@@ -24,13 +25,13 @@ Room a log at = at + length (recordOf a) ≤ length log
 
 -- given log room, a trace of p is accepted
 abbrev pub Traceable : Image → Partition → Type 0
-Traceable y p = (log : List ℕ) (at : ℕ) → Room (trace (p .0)) log at → said ((traceOf y p log at) .answer) ≡ accepted (length (recordOf (trace (p .0))))
+Traceable y p = (log : List ℕ) (at : ℕ) → Room (single (Trace p)) log at → said ((traceOf y p log at) .answer) ≡ accepted (length (recordOf (single (Trace p))))
 
 -- given log room, a close is accepted, and answers word 3 and the number of unmarked objects
 abbrev pub Closable : Image → Type 0
 Closable y =
-    (log : List ℕ) (at : ℕ) → Room closing log at
-    → saidClosing ((closeOf y log at) .answer) ≡ accepted (totals (length (recordOf closing)) (get y count) (unmarked (get y partitions * get y slots) y))
+    (log : List ℕ) (at : ℕ) → Room (single Close) log at
+    → saidClosing ((closeOf y log at) .answer) ≡ accepted (totals (length (recordOf (single Close))) (get y count) (unmarked (get y partitions * get y slots) y))
 
 abbrev pub AllClean : Image → Type 0
 AllClean y = (p : ℕ) → p < get y partitions → Clean y p
@@ -40,7 +41,7 @@ AllClean y = (p : ℕ) → p < get y partitions → Clean y p
 pub data LowestFirst : Image → List Partition → Image → Type 0 where
   all-clean : {y : Image} → AllClean y → LowestFirst y [] y
   tracing : {y z : Image} {ps : List Partition} (p : Partition) → Lowest y (p .0) → Traceable y p
-      → ((log : List ℕ) (at : ℕ) → Room (trace (p .0)) log at → LowestFirst ((traceOf y p log at) .image) ps z) → LowestFirst y (p ∷ ps) z
+      → ((log : List ℕ) (at : ℕ) → Room (single (Trace p)) log at → LowestFirst ((traceOf y p log at) .image) ps z) → LowestFirst y (p ∷ ps) z
 
 -- y in a phase that has n traces in all: so few of the lowest first leave all partitions clean, and then, if a root is in use, the phase can be closed
 pub record Ends (n : ℕ) (y : Image) : Type 0 where
@@ -55,8 +56,8 @@ abbrev pub most : Rule → List Act → ℕ
 most h earlier = h .P + unrooted (h .P) (h .S) (replay h earlier)
 
 -- of what an accepted close leaves
-abbrev pub AfterClose : Image → (Image → Type 0) → Type 0
-AfterClose y Q = (log : List ℕ) (at : ℕ) → (calling y close-call log at) .number ≡ 0 → Q ((calling y close-call log at) .image)
+abbrev AfterClose : Image → (Image → Type 0) → Type 0
+AfterClose y Q = (log : List ℕ) (at : ℕ) → (calling y (single-call Close) log at) .number ≡ 0 → Q ((calling y (single-call Close) log at) .image)
 
 -- DEMAND 3. After the history `acts` under the heading's rule h the phase is open on the heap y
 pub record Demand-3-calls (h : Rule) (acts : List Act) (y : Image) : Type 0 where
@@ -66,7 +67,7 @@ pub record Demand-3-calls (h : Rule) (acts : List Act) (y : Image) : Type 0 wher
   -- the phase was opened after the acts `earlier`, and what came since closes nothing
   pub earlier : List Act
   pub since : List Act
-  pub split : acts ≡ since ++ (opening ∷ earlier)
+  pub split : acts ≡ since ++ (single Open ∷ earlier)
   pub unclosed : Unclosed since
   -- at most P + W traces, and word 3 is their number
   pub bound : traces since ≤ most h earlier

@@ -11,10 +11,11 @@ use Rattle.kinds.specs.declared.Target.{Target}
 use Rattle.kinds.specs.declared.Target.the-variants.{Nothing, Object}
 use Rattle.kinds.specs.declared.Operation.{Operation}
 use Rattle.kinds.specs.declared.Operation.the-variants.{New, Set, Val, Root}
+use Rattle.kinds.specs.declared.Single.the-variants.{Open, Trace, Close, Local}
 use Rattle.kinds.specs.declared.Verdict.{Verdict}
 use Rattle.kinds.specs.declared.Verdict.the-variants.{Accepted, Refused}
 use Rattle.model.specs.Image.{Image, Key, root, flag, state, field, partitions, slots, phase, count, allowance, anchors, get, lengthOf, size, place, placeOf}
-use Rattle.model.specs.Acts.{Act, commit, opening, closing, trace, local, perform}
+use Rattle.model.specs.Acts.{Act, commit, single, perform}
 use Rattle.model.specs.Sound.{Sound}
 use Rattle.writer.specs.Record.{recordOf, newest, headingOf}
 use Rattle.catalogue.specs.Answers.{Said, accepted, refusedWith}
@@ -134,12 +135,13 @@ operationsRows P S img e (o ∷ os) = operationRows P S img e o ++ operationsRow
 -- CLOSE 10, 12, 14, 16, with 14 the lowest partition that is not clean; LOCAL 7, 12
 abbrev pub actRows : Image → Act → List Row
 actRows img (commit os) = operationsRows (get img partitions) (get img slots) img 1 os
-actRows img opening = given 11 0 (AlreadyOpen img) ∷ given 12 0 (NoRoot img) ∷ []
-actRows img (trace p) = given 10 0 (NotOpen img) ∷ given 7 0 (get img partitions ≤ p) ∷ given 13 0 (Clean img p) ∷ given 15 0 (Spent img) ∷ []
-actRows img closing = given 10 0 (NotOpen img) ∷ given 12 0 (NoRoot img) ∷ telling 14 (Lowest img) ∷ given 16 0 (Astray img) ∷ []
-actRows img (local p) = given 7 0 (get img partitions ≤ p) ∷ given 12 0 (NoRoot img) ∷ []
+actRows img (single Open) = given 11 0 (AlreadyOpen img) ∷ given 12 0 (NoRoot img) ∷ []
+actRows img (single (Trace p)) =
+    given 10 0 (NotOpen img) ∷ given 7 0 (get img partitions ≤ p .0) ∷ given 13 0 (Clean img (p .0)) ∷ given 15 0 (Spent img) ∷ []
+actRows img (single Close) = given 10 0 (NotOpen img) ∷ given 12 0 (NoRoot img) ∷ telling 14 (Lowest img) ∷ given 16 0 (Astray img) ∷ []
+actRows img (single (Local p)) = given 7 0 (get img partitions ≤ p .0) ∷ given 12 0 (NoRoot img) ∷ []
 
--- OPEN, TRACE, CLOSE, LOCAL: 1, the act's own list, 17
+-- an act whose record is a single line (OPEN, TRACE, CLOSE, LOCAL): 1, its own list, 17
 abbrev pub callRows : Image → Act → List ℕ → ℕ → List Row
 callRows img a log at = given 1 0 (Unsound img) ∷ (actRows img a ++ (given 17 0 (NoRoom (recordOf a) at log) ∷ []))
 

@@ -1,6 +1,6 @@
 -- The judge of a name, check by check; what it accepts has its place in the image; and a record from its parts.
 -- Assumes nothing.
-use Prim.Native.Nat.{ℕ, _+_, _*_, _≤_, _<_}
+use Prim.Native.Nat.{ℕ, _*_, _≤_, _<_}
 use mathlib.Core.Path.{_≡_, refl}
 use mathlib.Core.Bool.{Bool, true, false}
 use mathlib.Core.Logic.{_≢_}
@@ -8,7 +8,6 @@ use mathlib.Core.List.{List, [], _∷_}
 use native.Mathlib.Omega.{arith}
 use lib.Arith.{digits-lt}
 use lib.Dec.{ltb}
-use lib.ListN.{getD}
 use borrow.Author.Tests.{ltb-true, lt-ltb, le-ltb, eq-eqb, ne-eqb}
 use Rattle.loops.proofs.Tests.{both-true, both-false}
 use Rattle.kinds.specs.Answers.{refuse}
@@ -17,7 +16,7 @@ use Rattle.kinds.specs.declared.Field.{Field}
 use Rattle.kinds.specs.declared.Record.{Record}
 use Rattle.kinds.specs.declared.Verdict.{Verdict}
 use Rattle.kinds.specs.declared.Verdict.the-variants.{Accepted}
-use Rattle.model.specs.Image.{Image, payload, front, stride, addr, get, place}
+use Rattle.model.specs.Image.{Image, state, payload, get, place}
 use Rattle.model.specs.Judge.{judgeName, check, inHeap}
 use Rattle.model.specs.Questions.{fieldOf, readOf}
 
@@ -30,14 +29,14 @@ module _ (P S : ℕ) (x : Image) (n : Name) where
   unfolding judgeName check
   judge-slot h = rw (le-ltb (n .slot .0) S h, both-false (ltb (n .partition .0) P))
 
-  module _ (p : n .partition .0 < P) (s : n .slot .0 < S) where
-    pub judge-absent : getD x (front + stride * place S n) 0 ≡ 0 → refuse 9 0 ≡ judgeName P S x n
-    unfolding judgeName check get addr
-    judge-absent h = rw (lt-ltb (n .partition .0) P p, lt-ltb (n .slot .0) S s, eq-eqb _ _ h)
+  module _ (p : n .partition .0 < P) (s : n .slot .0 < S) (j v : ℕ) (at : j ≡ place S n) (e : v ≡ get x (state j)) where
+    pub judge-absent : v ≡ 0 → refuse 9 0 ≡ judgeName P S x n
+    unfolding judgeName check
+    judge-absent h = rw (lt-ltb (n .partition .0) P p, lt-ltb (n .slot .0) S s, ← at, ← e, eq-eqb v 0 h)
 
-    pub judge-accepts : getD x (front + stride * place S n) 0 ≢ 0 → Accepted ≡ judgeName P S x n
-    unfolding judgeName check get addr
-    judge-accepts h = rw (lt-ltb (n .partition .0) P p, lt-ltb (n .slot .0) S s, ne-eqb _ _ h)
+    pub judge-accepts : v ≢ 0 → Accepted ≡ judgeName P S x n
+    unfolding judgeName check
+    judge-accepts h = rw (lt-ltb (n .partition .0) P p, lt-ltb (n .slot .0) S s, ← at, ← e, ne-eqb v 0 h)
 
   -- what a caller of `read` and `ask` knows of an accepted name
   pub accepted-in : judgeName P S x n ≡ Accepted → place S n < P * S
@@ -48,7 +47,7 @@ module _ (P S : ℕ) (x : Image) (n : Name) where
       go true q v e = let h = both-true (ltb (n .partition .0) P) (ltb (n .slot .0) S) q in digits-lt (ltb-true _ _ (h .0)) (ltb-true _ _ (h .1))
       go false q v e = let z : _≡_ {A = ℕ} 0 1 = cc in absurd (omega arith)
 
-pub made : (x : Image) (j : ℕ) (l : List Field) → l ≡ fieldOf x j 0 ∷ fieldOf x j 1 ∷ fieldOf x j 2 ∷ fieldOf x j 3 ∷ []
-    → _≡_ {A = Record} (record { payload = getD x (front + stride * j + 1) 0; fields = l }) (readOf x j)
-unfolding readOf get addr
-made x j l e = λ i. record { payload = getD x (front + stride * j + 1) 0; fields = e i }
+pub made : (x : Image) (j v : ℕ) (l : List Field) → v ≡ get x (payload j) → l ≡ fieldOf x j 0 ∷ fieldOf x j 1 ∷ fieldOf x j 2 ∷ fieldOf x j 3 ∷ []
+    → _≡_ {A = Record} (record { payload = v; fields = l }) (readOf x j)
+unfolding readOf
+made x j v l q e = λ i. record { payload = q i; fields = e i }

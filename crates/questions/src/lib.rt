@@ -9,9 +9,8 @@ use kinds::Record;
 use kinds::Refusal;
 use kinds::Verdict;
 ghost use mathlib.Core.Path.{_≡_};
-ghost use Prim.Native.Nat.{_+_, _*_, _≤_, _<_};
-ghost use lib.ListN.{length};
-ghost use Rattle.model.specs.Image.{place, front, stride};
+ghost use Prim.Native.Nat.{ℕ, _*_, _<_};
+ghost use Rattle.model.specs.Image.{field, place, Has};
 ghost use Rattle.model.specs.Judge.{judgeName};
 ghost use Rattle.model.specs.Questions as Questions;
 ghost use Rattle.image.specs.Within.{Within};
@@ -28,7 +27,7 @@ pub fn judge_name(img: &[u32], p: usize, s: usize, n: Name) -> Verdict
         return Verdict::refuse(Refusal::RANGE, 0);
     }
     let j = image::place(n, s);
-    if img[image::FRONT + image::STRIDE * j] == 0 {
+    if image::state_at(img, j) == 0 {
         return Verdict::refuse(Refusal::ABSENT, 0);
     }
     Verdict::Accepted
@@ -36,20 +35,20 @@ pub fn judge_name(img: &[u32], p: usize, s: usize, n: Name) -> Verdict
 
 // Field k of place j.
 fn field_at(img: &[u32], j: usize, k: usize) -> Field
-    requires { ⌜ front + stride * j + 2 + k < length (now img) ⌝ }
+    requires { ⌜ Has (now img) (field j k) ⌝ }
     ensures { λ r. ⌜ r ≡ Questions.fieldOf (now (img .entry)) j k ⌝ }
 {
-    let target = kinds::target_of(img[image::FRONT + image::STRIDE * j + 2 + k]);
+    let target = kinds::target_of(image::field_at(img, j, k));
     Field { target: target }
 }
 
 // The object of a name: its payload beside its four fields.
 pub fn read(img: &[u32], s: usize, n: Name) -> Record
-    requires { ⌜ front + stride * (place s n + 1) ≤ length (now img) ⌝ }
+    requires { ⌜ ((p : ℕ) × Within p s (now img) × (place s n < p * s)) ⌝ }
     ensures { λ r. ⌜ r ≡ Questions.readOf (now (img .entry)) (place s n) ⌝ }
 {
     let j = image::place(n, s);
-    let payload = img[image::FRONT + image::STRIDE * j + 1];
+    let payload = image::payload_at(img, j);
     let a = field_at(img, j, 0);
     let b = field_at(img, j, 1);
     let c = field_at(img, j, 2);
@@ -70,17 +69,7 @@ pub fn ask(img: &[u32], p: usize, s: usize, n: Name) -> bool
     let all = p * s;
     let mut marks = image::zeros();
     let mut list = image::zeros();
-    let m = todo::note_row(
-        img,
-        s,
-        0,
-        all,
-        image::ROOT,
-        image::ANCHORS,
-        &mut marks,
-        &mut list,
-        0,
-    );
+    let m = todo::note_roots(img, p, s, 0, all, &mut marks, &mut list, 0);
     todo::spread(img, p, s, 0, all, &mut marks, &mut list, m);
     if marks[j] == 1 {
         return true;

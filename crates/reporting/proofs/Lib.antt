@@ -1,4 +1,3 @@
 pub mod Headings
 pub mod Texts
-pub mod Recoveries
 pub mod Reporting

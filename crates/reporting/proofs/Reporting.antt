@@ -12,19 +12,20 @@ use borrow.Author.Tests.{lt-ltb, le-ltb, le-leb, lt-leb}
 use Rattle.kinds.specs.declared.Refusal.{Refusal}
 use Rattle.kinds.specs.declared.Verdict.{Verdict}
 use Rattle.kinds.specs.declared.Verdict.the-variants.{Accepted, Refused}
-use Rattle.model.specs.Image.{Image, front, stride, phase, get}
+use Rattle.model.specs.Image.{Image, phase, get, size}
 use Rattle.journal.specs.Recover.{Recovered, recoverOf}
-use Rattle.lines.specs.Print.{Put}
+use Rattle.journal.proofs.AnyBytes.{any-bytes, refused-so}
+use Rattle.journal.proofs.Salvaging.{kept-within, refused-within}
+use Rattle.lines.specs.Print.{Put, Bytes}
 use Rattle.writer.specs.declared.Written.{Written}
 use Rattle.writer.specs.declared.Written.the-variants.{Done, Full}
 use Rattle.writer.specs.Write.{Wrote, wrote, splice}
-use Rattle.recovery.specs.Out.{out}
+use Rattle.recovery.specs.Answers.{out}
 use Rattle.recovery.specs.declared.Recovery.{Recovery}
 use Rattle.recovery.specs.declared.Recovery.the-variants.{Kept, Refused as NotKept}
 use Rattle.reporting.specs.declared.asked.Asked.{Asked}
 use Rattle.reporting.specs.Report.{mostBytes, mostWords, room, answerWord, lineWord, keptWord, phaseWord, toolongWord, row, objects, refusedText, keptText, told, shown, askedOf, lent, recoveredText, reportOf, reported}
 use Rattle.reporting.proofs.Headings.{Bounded, asked-bounded}
-use Rattle.reporting.proofs.Recoveries.{Small, recover-small}
 use Rattle.reporting.proofs.Texts.{row-length, objects-length, places-most}
 
 refused-length : (n k : ℕ) → length (refusedText n k) ≤ room
@@ -70,7 +71,7 @@ pub report-long : (log : List ℕ) → mostBytes < length log → row toolongWor
 unfolding reportOf
 report-long log h = rw (lt-ltb mostBytes (length log) h)
 
-pub report-short : (log : List ℕ) → length log ≤ mostBytes → recoveredText log ≡ reportOf log
+report-short : (log : List ℕ) → length log ≤ mostBytes → recoveredText log ≡ reportOf log
 unfolding reportOf
 report-short log h = rw (le-ltb mostBytes (length log) h)
 
@@ -91,14 +92,17 @@ module _ (log : List ℕ) (len : ℕ) (r : Recovery) (y : Image) (e : out r y �
   answered : (s : Recovery) → r ≡ s → out s y ≡ recoverOf log len
   answered s q = ap (λ (t : Recovery). out t y) (sym q) ∙ e
 
-  answered-small : (s : Recovery) → r ≡ s → Small len (length log) (out s y .verdict) (out s y .kept)
-  answered-small s q = subst (λ (z : Recovered). Small len (length log) (z .verdict) (z .kept)) (sym (answered s q)) (recover-small log len)
+  -- the kept length is within the log, and there is an image; a refusal's line is at most one more than there are bytes
+  module _ (b : Bytes log) where
+    pub kept-small : {k : ℕ} → r ≡ Kept k → k ≤ length log
+    kept-small {k} q = omega (arith, ap (λ (z : Recovered). z .kept) (answered (Kept k) q), kept-within log len b)
 
-  pub kept-small : (k : ℕ) → r ≡ Kept k → (37 ≤ len) × (k ≤ length log)
-  kept-small k q = answered-small (Kept k) q
+    pub kept-some : {k : ℕ} → r ≡ Kept k → 0 < len
+    unfolding size
+    kept-some {k} q = omega (arith, any-bytes log len b (sym (ap (λ (z : Recovered). z .verdict) (answered (Kept k) q))) .kept .before .fits)
 
-  pub line-small : (n : Refusal) → r ≡ NotKept n → n .extra ≤ length log + 1
-  line-small n q = answered-small (NotKept n) q
+    pub line-small : {n : Refusal} → r ≡ NotKept n → n .extra ≤ length log + 1
+    line-small {n} q = refused-within (refused-so log len b (n .number) (n .extra) (sym (ap (λ (z : Recovered). z .verdict) (answered (NotKept n) q))))
 
   module _ (P S : ℕ) where
     pub kept-shown : (k : ℕ) → r ≡ Kept k → keptText P S k y ≡ shown P S (recoverOf log len)
@@ -110,7 +114,7 @@ module _ (log : List ℕ) (len : ℕ) (r : Recovery) (y : Image) (e : out r y �
     refused-shown n q = ap (shown P S) (answered (NotKept n) q)
 
 -- the part of the largest image that is lent
-module _ (log : List ℕ) (a : Asked) (e : a ≡ askedOf log) (img : List ℕ) (l : length img ≡ mostWords) where
+module _ (log : List ℕ) {a : Asked} (e : a ≡ askedOf log) (img : List ℕ) (l : length img ≡ mostWords) where
   bounds : Bounded a
   bounds = subst Bounded (sym e) (asked-bounded log)
 
@@ -120,7 +124,7 @@ module _ (log : List ℕ) (a : Asked) (e : a ≡ askedOf log) (img : List ℕ) (
   pub words-lent : length (take (a .words) img) ≡ a .words
   words-lent = length-take-le (a .words) img words-fit
 
-  pub lent-whole : (a .partitions ≤ 16) × (a .slots ≤ 64) × (0 < length (take (a .words) img) → length (take (a .words) img) ≡ front + stride * (a .partitions * a .slots))
+  pub lent-whole : (a .partitions ≤ 16) × (a .slots ≤ 64) × (0 < length (take (a .words) img) → length (take (a .words) img) ≡ size (a .partitions) (a .slots))
   lent-whole = (bounds .few, bounds .narrow, λ h. words-lent ∙ bounds .whole (omega (arith, words-lent)))
 
   pub lent-report : length log ≤ mostBytes → shown (a .partitions) (a .slots) (recoverOf log (length (take (a .words) img))) ≡ reportOf log

@@ -16,12 +16,12 @@ use Rattle.lines.proofs.Digits.{decimal-length, decimal-length-small, decimal-l
 use Rattle.lines.specs.Decimal.{decimal}
 use Rattle.lines.specs.Print.{Put}
 use Rattle.model.specs.Acts.{used}
-use Rattle.model.specs.Image.{Image, front, stride, payload, addr, get}
+use Rattle.model.specs.Image.{Image, state, payload, get}
 use Rattle.writer.proofs.Puts.{put-byte, put-then, put-length}
 use Rattle.reporting.specs.Report.{objectWord, spaced, row, objectAt, objects}
 
 -- a number has at most ten digits, and one below 100 at most two
-pub spaced-length : (n : ℕ) → length (spaced n) ≤ 11
+spaced-length : (n : ℕ) → length (spaced n) ≤ 11
 unfolding spaced
 spaced-length n = omega (arith, decimal-length n)
 
@@ -42,14 +42,24 @@ row-length word n =
     omega (arith, length-append word (spaced n ++ (10 ∷ [])), length-append (spaced n) (10 ∷ []), spaced-length n)
 
 -- an object's line has at most 24 bytes
-pub object-length : (p s v : ℕ) → p < 100 → s < 100 → length (row objectWord (p ∷ s ∷ v ∷ [])) ≤ 24
+object-length : (p s v : ℕ) → p < 100 → s < 100 → length (row objectWord (p ∷ s ∷ v ∷ [])) ≤ 24
 unfolding row
 object-length p s v hp hs =
-    omega (arith, length-append objectWord (spaced p ++ (spaced s ++ (spaced v ++ (10 ∷ [])))), length-append (spaced p) (spaced s ++ (spaced v ++ (10 ∷ []))), length-append (spaced s) (spaced v ++ (10 ∷ [])), length-append (spaced v) (10 ∷ []), spaced-small p hp, spaced-small s hs, spaced-length v)
+    let e = spaced v ++ (10 ∷ []) in
+    omega (
+      arith,
+      length-append objectWord (spaced p ++ (spaced s ++ e)),
+      length-append (spaced p) (spaced s ++ e),
+      length-append (spaced s) e,
+      length-append (spaced v) (10 ∷ []),
+      spaced-small p hp,
+      spaced-small s hs,
+      spaced-length v,
+    )
 
 -- the slot and the partition of a place have two digits
 module _ (S j : ℕ) (narrow : S ≤ 64) (in-heap : j < 16 * S) where
-  pub some-slot : 0 < S
+  some-slot : 0 < S
   some-slot = omega arith
 
   pub part-small : j / S < 16
@@ -58,10 +68,10 @@ module _ (S j : ℕ) (narrow : S ≤ 64) (in-heap : j < 16 * S) where
   pub slot-small : j % S < 64
   slot-small = let h : j % S < S = mod-lt j some-slot in omega arith
 
-  pub line-length : (v : ℕ) → length (row objectWord (j / S ∷ j % S ∷ v ∷ [])) ≤ 24
+  line-length : (v : ℕ) → length (row objectWord (j / S ∷ j % S ∷ v ∷ [])) ≤ 24
   line-length v = let p : j / S < 16 = part-small in let s : j % S < 64 = slot-small in object-length (j / S) (j % S) v (omega arith) (omega arith)
 
-  pub place-length : (y : Image) → length (objectAt S y j) ≤ 24
+  place-length : (y : Image) → length (objectAt S y j) ≤ 24
   unfolding objectAt
   place-length y = by (used y j)
     where
@@ -88,13 +98,13 @@ put-word l m word at i h p = subst (λ (xs : List ℕ). Put l m at xs (at + i)) 
 
 -- what is said of a place, by the word that is its state
 module _ (S : ℕ) (y : Image) (j : ℕ) where
-  pub place-free : getD y (front + stride * j) 0 ≡ 0 → objectAt S y j ≡ []
-  unfolding objectAt get addr
-  place-free e = rw (eq-eqb (getD y (front + stride * j) 0) 0 e)
+  pub place-free : get y (state j) ≡ 0 → objectAt S y j ≡ []
+  unfolding objectAt
+  place-free e = rw (eq-eqb (get y (state j)) 0 e)
 
-  pub place-used : getD y (front + stride * j) 0 ≢ 0 → objectAt S y j ≡ row objectWord (j / S ∷ j % S ∷ getD y (front + stride * j + 1) 0 ∷ [])
-  unfolding objectAt get addr
-  place-used e = rw (ne-eqb (getD y (front + stride * j) 0) 0 e)
+  pub place-used : get y (state j) ≢ 0 → objectAt S y j ≡ row objectWord (j / S ∷ j % S ∷ get y (payload j) ∷ [])
+  unfolding objectAt
+  place-used e = rw (ne-eqb (get y (state j)) 0 e)
 
 -- one more place
 module _ (S : ℕ) (y : Image) (j : ℕ) {before after : List ℕ} {at next : ℕ} (p : Put before after at (objects S y j) next) where

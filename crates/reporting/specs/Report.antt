@@ -10,7 +10,7 @@ use Rattle.kinds.specs.declared.Verdict.the-variants.{Accepted, Refused}
 use Rattle.lines.specs.declared.cursor.Step.{Step}
 use Rattle.lines.specs.declared.cursor.Step.the-variants.{Line as ALine, Tail}
 use Rattle.lines.specs.declared.line.Line.{Line}
-use Rattle.lines.specs.declared.line.Line.the-variants.{Heading, Operation, End, Open, Trace, Close, Local, Bad}
+use Rattle.lines.specs.declared.line.Line.the-variants.{Heading, Operation, End, Single as SingleLine, Bad}
 use Rattle.lines.specs.Cursor.{stepOf}
 use Rattle.lines.specs.Decimal.{decimal}
 use Rattle.model.specs.Acts.{used}
@@ -113,10 +113,7 @@ abbrev pub askedBy : Line → Asked
 askedBy (Heading e P S) = heapAsked P S
 askedBy (Operation o) = nothingAsked
 askedBy (End k) = nothingAsked
-askedBy Open = nothingAsked
-askedBy (Trace p) = nothingAsked
-askedBy Close = nothingAsked
-askedBy (Local p) = nothingAsked
+askedBy (SingleLine a) = nothingAsked
 askedBy Bad = nothingAsked
 
 -- a log without a complete line asks for nothing

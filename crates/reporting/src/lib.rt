@@ -13,11 +13,11 @@ use image::WORDS;
 use recovery::Recovery;
 use writer::Written;
 ghost use mathlib.Core.Path.{_≡_};
-ghost use Prim.Native.Nat.{_+_, _*_, _<_, _≤_};
+ghost use Prim.Native.Nat.{_<_, _≤_};
 ghost use lib.ListN.{length};
 ghost use Rattle.lines.specs.Print.{Put};
 ghost use Rattle.kinds.specs.Names.{mostPartitions, mostSlots};
-ghost use Rattle.model.specs.Image.{front, stride};
+ghost use Rattle.model.specs.Image.{size};
 ghost use Rattle.writer.specs.Write.{wrote};
 ghost use Rattle.journal.specs.Recover.{recoverOf};
 ghost use Rattle.reporting.specs.Report.{mostBytes, mostWords, room, shown, reportOf, reported};
@@ -37,7 +37,7 @@ fn image() -> [u32; WORDS]
 
 // What recovery into the lent words answers; they are as many as P and S ask for, or none.
 fn put_recovered(out: &mut [u8], img: &mut [u32], log: &[u8], p: usize, s: usize) -> usize
-    requires { ⌜ (p ≤ mostPartitions) × (s ≤ mostSlots) × (0 < length (now img) → length (now img) ≡ front + stride * (p * s)) ⌝ }
+    requires { ⌜ (p ≤ mostPartitions) × (s ≤ mostSlots) × (0 < length (now img) → length (now img) ≡ size p s) ⌝ }
     requires { ⌜ (length (now log) ≤ mostBytes) × (room ≤ length (now out)) ⌝ }
     ensures { λ r. ⌜ Put (now (out .entry)) (now (out .exit)) 0 (shown p s (recoverOf (now (log .entry)) (length (now (img .entry))))) r ⌝ }
 {

@@ -4,11 +4,8 @@ ghost use Prim.Native.Nat.{_+_, _*_, _<_, _≤_};
 ghost use lib.ListN.{length};
 ghost use Rattle.lines.specs.Print.{Put};
 ghost use Rattle.kinds.specs.Names.{mostPartitions, mostSlots};
-ghost use Rattle.model.specs.Image.{front, stride, addr, payload};
+ghost use Rattle.model.specs.Image.{state, payload, Has, Sized};
 ghost use Rattle.reporting.specs.Report.{room, objectBytes, toolongWord, objectWord, spaced, ending, row, objectAt, objects, refusedText, keptText};
-use image::FRONT;
-use image::PHASE;
-use image::STRIDE;
 use writer::decimal::put_number;
 
 // The bytes of a word.
@@ -65,19 +62,19 @@ fn put_object(out: &mut [u8], at: usize, p: u32, s: u32, v: u32) -> usize
 
 // What is said of place j: the line of its object, or nothing where the slot is free.
 fn put_place(out: &mut [u8], at: usize, img: &[u32], s: usize, j: usize) -> usize
-    requires { ⌜ (s ≤ mostSlots) × (j < mostPartitions * s) × (addr (payload j) < length (now img)) × (at + objectBytes ≤ length (now out)) ⌝ }
+    requires { ⌜ (s ≤ mostSlots) × (j < mostPartitions * s) × Has (now img) (state j) × Has (now img) (payload j) × (at + objectBytes ≤ length (now out)) ⌝ }
     ensures { λ r. ⌜ Put (now (out .entry)) (now (out .exit)) at (objectAt s (now (img .entry)) j) r ⌝ }
 {
-    let state = FRONT + STRIDE * j;
-    if img[state] == 0 {
+    if image::state_at(img, j) == 0 {
         return at;
     }
-    put_object(out, at, (j / s) as u32, (j % s) as u32, img[state + 1])
+    let v = image::payload_at(img, j);
+    put_object(out, at, (j / s) as u32, (j % s) as u32, v)
 }
 
 // The objects of the first n places.
 fn put_objects(out: &mut [u8], at: usize, img: &[u32], s: usize, n: usize) -> usize
-    requires { ⌜ (s ≤ mostSlots) × (n ≤ mostPartitions * s) × (front + stride * n ≤ length (now img)) × (at + objectBytes * n ≤ length (now out)) ⌝ }
+    requires { ⌜ (s ≤ mostSlots) × (n ≤ mostPartitions * s) × Sized n (now img) × (at + objectBytes * n ≤ length (now out)) ⌝ }
     ensures { λ r. ⌜ Put (now (out .entry)) (now (out .exit)) at (objects s (now (img .entry)) n) r ⌝ }
 {
     let mut next = at;
@@ -108,11 +105,12 @@ pub(crate) fn put_refused(out: &mut [u8], n: u32, k: u32) -> usize
 
 // The report of an accepted log: k is the kept length, in an image of p partitions of s slots.
 pub(crate) fn put_kept(out: &mut [u8], img: &[u32], p: usize, s: usize, k: u32) -> usize
-    requires { ⌜ (p ≤ mostPartitions) × (s ≤ mostSlots) × (front + stride * (p * s) ≤ length (now img)) × (room ≤ length (now out)) ⌝ }
+    requires { ⌜ (p ≤ mostPartitions) × (s ≤ mostSlots) × Sized (p * s) (now img) × (room ≤ length (now out)) ⌝ }
     ensures { λ r. ⌜ Put (now (out .entry)) (now (out .exit)) 0 (keptText p s k (now (img .entry))) r ⌝ }
 {
     let a = put_row(&mut *out, 0, b"answer", 0);
     let b = put_row(&mut *out, a, b"kept", k);
-    let c = put_row(&mut *out, b, b"phase", img[PHASE]);
+    let phase = image::head_at(img, image::PHASE);
+    let c = put_row(&mut *out, b, b"phase", phase);
     put_objects(&mut *out, c, img, s, p * s)
 }

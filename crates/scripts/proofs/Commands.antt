@@ -8,6 +8,7 @@ use mathlib.Core.List.{List}
 use lib.ListN.{length, getD}
 use borrow.Author.Tests.{eq-eqb, ne-eqb}
 use Rattle.loops.proofs.Tests.{lt-or-ge}
+use Rattle.lines.specs.Words.{code}
 use Rattle.scripts.specs.declared.run.Span.{Span}
 use Rattle.scripts.specs.declared.run.Run.the-variants.{Gap, Word}
 use Rattle.scripts.specs.declared.number.Parsed.{Parsed}
@@ -18,7 +19,7 @@ use Rattle.scripts.specs.declared.command.Next.{Next}
 use Rattle.scripts.specs.declared.command.Next.the-variants.{Number, Nothing, Bad}
 use Rattle.scripts.specs.Runs.{endOf, wordAt, textOf}
 use Rattle.scripts.specs.Numbers.{numberOf, keywordOf}
-use Rattle.scripts.specs.Table.{bytesWord}
+use Rattle.scripts.specs.Table.{bytesText}
 use Rattle.scripts.specs.Commands.{mostNumbers, begun, pushed, complete, none, found, nextNumber, numbersFrom, worded, commandOf}
 use Rattle.scripts.proofs.Ends.{end-past, end-after, end-within}
 
@@ -138,9 +139,9 @@ module _ (line : List ℕ) (w : Span) (is : w ≡ wordAt line 0) where
     unfolding commandOf
     command-worded ne k e = rw (some-word line 0 w is some, ← is, ne-eqb _ _ ne, e)
 
-    pub command-bytes : (getD line (w .from) 0 ≡ 35 → ⊥) → (k : ℕ) → k ≡ keywordOf (textOf line w) → k ≡ bytesWord → Bytes (w .to) ≡ commandOf line
-    command-bytes ne k e h = rw (eq-eqb k bytesWord h) at (command-worded ne k e)
+    pub command-bytes : (getD line (w .from) 0 ≡ 35 → ⊥) → (k : ℕ) → k ≡ keywordOf (textOf line w) → k ≡ (code 0 bytesText) → Bytes (w .to) ≡ commandOf line
+    command-bytes ne k e h = rw (eq-eqb k (code 0 bytesText) h) at (command-worded ne k e)
 
-    pub command-numbers : (getD line (w .from) 0 ≡ 35 → ⊥) → (k : ℕ) → k ≡ keywordOf (textOf line w) → (k ≡ bytesWord → ⊥)
+    pub command-numbers : (getD line (w .from) 0 ≡ 35 → ⊥) → (k : ℕ) → k ≡ keywordOf (textOf line w) → (k ≡ (code 0 bytesText) → ⊥)
         → (c : Command) → c ≡ numbersFrom mostNumbers line (w .to) (begun k) → c ≡ commandOf line
-    command-numbers ne k e h c f = f ∙ (rw (ne-eqb k bytesWord h) at (command-worded ne k e))
+    command-numbers ne k e h c f = f ∙ (rw (ne-eqb k (code 0 bytesText) h) at (command-worded ne k e))

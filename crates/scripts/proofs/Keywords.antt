@@ -1,5 +1,5 @@
 -- Laws of keywords.
-use Prim.Native.Nat.{ℕ, _+_, _*_, _/_, _%_, _^_, _≤_, _<_}
+use Prim.Native.Nat.{ℕ, _+_, _*_, _^_, _≤_, _<_}
 use native.Mathlib.Omega.{arith}
 use native.Mathlib.Numerals.{add-one}
 use mathlib.Core.Path.{_≡_, refl, sym, ap, _∙_}
@@ -12,7 +12,7 @@ use borrow.Author.Tests.{ltb-true, leb-true}
 use Rattle.loops.specs.Loop.{both}
 use Rattle.loops.proofs.Tests.{both-true}
 use Rattle.lines.specs.Print.{text}
-use Rattle.lines.proofs.Texts.{text-none, text-step}
+use Rattle.lines.proofs.Texts.{text-none, text-snoc}
 use Rattle.scripts.specs.Numbers.{isLetter, coded, keywordOf}
 
 module _ (k : ℕ) (l : List ℕ) (i : ℕ) (h : i < length l) where
@@ -29,13 +29,6 @@ pub coded-end : (k : ℕ) (l : List ℕ) (i : ℕ) → length l ≤ i → coded 
 unfolding coded
 coded-end k l i h = rw (drop-of-length-le l h)
 
--- one letter more
-text-snoc : (k b : ℕ) → k < 2 ^ 56 → 97 ≤ b → b ≤ 122 → text (k * 256 + b) ≡ text k ++ (b ∷ [])
-text-snoc k b h lo hi =
-    let d : (k * 256 + b) / 256 ≡ k = omega arith in
-    let m : (k * 256 + b) % 256 ≡ b = omega arith in
-    text-step (k * 256 + b) (λ e. omega arith) (omega arith) ∙ rw (d, m)
-
 coded-text : (k : ℕ) (l : List ℕ) → (coded k l ≡ 0 → ⊥) → text (coded k l) ≡ text k ++ l
 unfolding coded
 coded-text k [] some = sym (append-nil (text k))
@@ -47,8 +40,10 @@ coded-text k (b ∷ bs) some = step (both (isLetter b) (ltb k (2 ^ 56))) refl (�
     step true e ih s =
         let z = both-true (isLetter b) (ltb k (2 ^ 56)) e in
         let y = both-true (leb 97 b) (leb b 122) (z .0) in
+        let lo : 97 ≤ b = leb-true _ _ (y .0) in
+        let hi : b ≤ 122 = leb-true _ _ (y .1) in
         ih s
-        ∙ ap (λ (xs : List ℕ). xs ++ bs) (text-snoc k b (ltb-true _ _ (z .1)) (leb-true _ _ (y .0)) (leb-true _ _ (y .1)))
+        ∙ ap (λ (xs : List ℕ). xs ++ bs) (text-snoc k b (ltb-true _ _ (z .1)) (omega arith) (λ e. omega arith))
         ∙ append-assoc (text k) (b ∷ []) bs
     step false e ih s = absurd (s refl)
 

@@ -12,12 +12,13 @@ use borrow.Author.Tests.{lt-ltb, ltb-true, eq-eqb, eqb-true}
 use Rattle.loops.specs.Loop.{both}
 use Rattle.loops.proofs.Tests.{both-true, is-false}
 use Rattle.lines.specs.declared.line.Line.{Line}
-use Rattle.lines.specs.declared.line.Line.the-variants.{Heading, Operation, End, Open, Trace, Close, Local, Bad}
+use Rattle.lines.specs.declared.line.Line.the-variants.{Heading, Operation, End, Single, Bad}
 use Rattle.lines.specs.declared.machine.Scan.{Scan}
 use Rattle.lines.specs.Decimal.{digits, decimal}
-use Rattle.lines.specs.Words.{headingRows, otherRows, allRows, beginnings, prefixesOf, code, isIn, known, following, endText}
+use Rattle.lines.specs.Words.{headingRows, otherRows, allRows, beginnings, prefixesOf, isIn, known, following, endText}
 use Rattle.lines.specs.Machine.{within, scan}
 use Rattle.lines.specs.Line.{finish, lineOf}
+use Rattle.lines.proofs.Printed.{bytes-of}
 use Rattle.lines.specs.Print.{letters, text, field, printShape, print, Bytes, SmallLine}
 use Rattle.lines.proofs.Digits.{digits-small, digits-step, decimal-length}
 use Rattle.lines.proofs.RoundTrip.{round-trip}
@@ -100,7 +101,7 @@ abbrev ending : List ℕ → List ℕ
 ending word = endText ++ (9 ∷ word)
 
 after-end : (word : List ℕ) → finish (afterEnd word) ≡ lineOf (ending word)
-unfolding afterEnd lineOf scan within known following isIn code prefixesOf allRows headingRows otherRows beginnings
+unfolding afterEnd lineOf scan within known following isIn prefixesOf allRows headingRows otherRows beginnings
 after-end word = refl
 
 end-printed : (v : ℕ) → print (End v) ≡ ending (decimal v)
@@ -117,16 +118,8 @@ abbrev pub parsed : Line → Parsed
 parsed (Heading e p s) = Not
 parsed (Operation o) = Not
 parsed (End v) = Is v
-parsed Open = Not
-parsed (Trace p) = Not
-parsed Close = Not
-parsed (Local p) = Not
+parsed (Single a) = Not
 parsed Bad = Not
-
--- the elements of a slice of bytes are bytes
-bytes-of : (xs : List ℕ) → ((i : ℕ) → getD xs i 0 < 256) → Bytes xs
-bytes-of [] h = tt
-bytes-of (x ∷ xs) h = (h 0, bytes-of xs (λ i. h (suc i)))
 
 end-bytes : (word : List ℕ) → Bytes word → Bytes (ending word)
 end-bytes word h = (omega arith, (omega arith, (omega arith, (omega arith, h))))
@@ -143,10 +136,7 @@ module _ (word : List ℕ) (h : Bytes word) where
       ap numberOf is ∙ number-is v (small .0)
   by-line (Heading e p s) q = other _ q (λ v b. absurd (let z : _≡_ {A = ℕ} 0 1 = cc in omega arith))
   by-line (Operation o) q = other _ q (λ v b. absurd (let z : _≡_ {A = ℕ} 0 1 = cc in omega arith))
-  by-line Open q = other _ q (λ v b. absurd (let z : _≡_ {A = ℕ} 0 1 = cc in omega arith))
-  by-line (Trace p) q = other _ q (λ v b. absurd (let z : _≡_ {A = ℕ} 0 1 = cc in omega arith))
-  by-line Close q = other _ q (λ v b. absurd (let z : _≡_ {A = ℕ} 0 1 = cc in omega arith))
-  by-line (Local p) q = other _ q (λ v b. absurd (let z : _≡_ {A = ℕ} 0 1 = cc in omega arith))
+  by-line (Single a) q = other _ q (λ v b. absurd (let z : _≡_ {A = ℕ} 0 1 = cc in omega arith))
   by-line Bad q = other _ q (λ v b. absurd (let z : _≡_ {A = ℕ} 0 1 = cc in omega arith))
 
 -- what the machine finds of a word is the number that the word is

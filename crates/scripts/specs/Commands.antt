@@ -5,8 +5,8 @@ use mathlib.Core.List.{List}
 use lib.Dec.{eqb}
 use lib.ListN.{getD}
 use Rattle.lines.specs.declared.line.Line.{Line}
-use Rattle.lines.specs.declared.line.Line.the-variants.{Heading, Operation as OperationLine, End, Open, Trace, Close, Local, Bad as BadLine}
-use Rattle.lines.specs.declared.machine.Scan.the-variants.{Number as InNumber}
+use Rattle.lines.specs.declared.machine.Scan.the-variants.{Word as InWord, Number as InNumber}
+use Rattle.lines.specs.Words.{code}
 use Rattle.lines.specs.Line.{finish}
 use Rattle.scripts.specs.declared.run.Span.{Span}
 use Rattle.scripts.specs.declared.number.Parsed.{Parsed}
@@ -16,11 +16,9 @@ use Rattle.scripts.specs.declared.command.Command.{Command}
 use Rattle.scripts.specs.declared.command.Command.the-variants.{Nothing as NoCommand, Bytes, Call, What}
 use Rattle.scripts.specs.declared.command.Next.{Next}
 use Rattle.scripts.specs.declared.command.Next.the-variants.{Number, Nothing, Bad}
-use Rattle.scripts.specs.declared.command.Waiting.{Waiting}
-use Rattle.scripts.specs.declared.command.Waiting.the-variants.{Operation, Nothing as NoOperation}
 use Rattle.scripts.specs.Runs.{wordAt, textOf}
 use Rattle.scripts.specs.Numbers.{numberOf, keywordOf}
-use Rattle.scripts.specs.Table.{rows, takes, bytesWord}
+use Rattle.scripts.specs.Table.{takes, bytesText}
 
 -- no command has more numbers
 abbrev pub mostNumbers : ℕ
@@ -36,7 +34,7 @@ pushed k v = record { word = k .word; count = k .count + 1; a = k .b; b = k .c; 
 
 -- a command, where the keyword takes as many numbers as there are
 unfoldable pub complete : A-call → Command
-complete k = cond (eqb (k .count) (takes rows (k .word))) (Call k) What
+complete k = cond (eqb (k .count) (takes (k .word))) (Call k) What
 
 -- there is no word
 abbrev pub none : Span → Bool
@@ -64,7 +62,7 @@ numbersFrom (suc n) line at k = onwards (nextNumber line at) (complete k) (λ v 
 
 -- of a line whose first word is no remark
 abbrev pub worded : List ℕ → ℕ → ℕ → Command
-worded line to w = cond (eqb w bytesWord) (Bytes to) (numbersFrom mostNumbers line to (begun w))
+worded line to w = cond (eqb w (code 0 bytesText)) (Bytes to) (numbersFrom mostNumbers line to (begun w))
 
 -- a line without a word, or whose first word begins with #, is nothing
 unfoldable pub commandOf : List ℕ → Command
@@ -73,17 +71,12 @@ commandOf line =
     (cond (eqb (getD line (wordAt line 0 .from) 0) 35) NoCommand
     (worded line (wordAt line 0 .to) (keywordOf (textOf line (wordAt line 0)))))
 
--- what a line of the log puts into a transaction
-abbrev pub waiting : Line → Waiting
-waiting (Heading e p s) = NoOperation
-waiting (OperationLine o) = Operation o
-waiting (End n) = NoOperation
-waiting Open = NoOperation
-waiting (Trace p) = NoOperation
-waiting Close = NoOperation
-waiting (Local p) = NoOperation
-waiting BadLine = NoOperation
+-- the log's line of the same words
+unfoldable pub lineOf : A-call → Line
+lineOf k = finish (InNumber (record { word = k .word; left = 0; a = k .a; b = k .b; c = k .c; d = k .d }) (k .e))
 
--- the operation that a call names is that of the log's line of the same words
-unfoldable pub operationOf : A-call → Waiting
-operationOf k = waiting (finish (InNumber (record { word = k .word; left = 0; a = k .a; b = k .b; c = k .c; d = k .d }) (k .e)))
+-- and of the same words less the last number
+unfoldable pub shorterOf : A-call → Line
+shorterOf k =
+    finish
+    (cond (eqb (k .count) 1) (InWord (k .word)) (InNumber (record { word = k .word; left = 0; a = 0; b = k .a; c = k .b; d = k .c }) (k .d)))

@@ -6,7 +6,7 @@ use lib.Dec.{eqb, ltb, leb}
 use Rattle.loops.specs.Loop.{both}
 use Rattle.lines.specs.declared.machine.Scan.{Scan}
 use Rattle.lines.specs.declared.machine.Scan.the-variants.{Start}
-use Rattle.lines.specs.Words.{allRows, endWord}
+use Rattle.lines.specs.Words.{allRows, code, endText}
 use Rattle.lines.specs.Machine.{limit, opened, scan}
 use Rattle.lines.specs.Decimal.{decimal}
 use Rattle.scripts.specs.declared.number.Parsed.{Parsed}
@@ -30,7 +30,7 @@ numberOf word = cond (both (ltb (value 0 word) (2 ^ 32)) (same word (decimal (va
 
 -- the machine of the log's lines after `end`, a tab and a word
 unfoldable pub afterEnd : List ℕ → Scan
-afterEnd word = scan allRows (limit - 4) (Start (opened endWord 0)) word
+afterEnd word = scan allRows (limit - 4) (Start (opened (code 0 endText) 0)) word
 
 -- a small letter
 abbrev pub isLetter : ℕ → Bool

@@ -1,67 +1,38 @@
--- What a line of the script asks for, keyword by keyword.
-use Prim.Native.Nat.{ℕ}
-use mathlib.Core.Bool.{cond}
-use mathlib.Core.List.{List, [], _∷_}
-use lib.Dec.{eqb}
-use Rattle.kinds.specs.Names.{named}
-use Rattle.lines.specs.Words.{code, openText, traceText, closeText, localText}
+-- What a line of the script asks for.
+use Rattle.lines.specs.declared.line.Line.{Line}
+use Rattle.lines.specs.declared.line.Line.the-variants.{Heading, Operation, End, Single, Bad}
+use Rattle.lines.specs.Words.{ofRow}
 use Rattle.scripts.specs.declared.command.Call.{Call as A-call}
 use Rattle.scripts.specs.declared.command.Command.{Command}
 use Rattle.scripts.specs.declared.command.Command.the-variants.{Nothing as NoCommand, Bytes as SomeBytes, Call, What as NoShape}
-use Rattle.scripts.specs.declared.command.Waiting.{Waiting}
-use Rattle.scripts.specs.declared.command.Waiting.the-variants.{Operation, Nothing as NoOperation}
-use Rattle.scripts.specs.declared.order.Look.the-variants.{Read, Ask, Outlist, Digest, Show, Log, Help}
-use Rattle.scripts.specs.declared.order.Deed.the-variants.{Word, Format, Commit, Open, Trace, Close, Local, Recover, Look}
+use Rattle.scripts.specs.declared.order.Deed.the-variants.{Single as SingleDeed}
 use Rattle.scripts.specs.declared.order.Order.{Order}
-use Rattle.scripts.specs.declared.order.Order.the-variants.{Nothing, What, Image, Buffer, Bytes, Wait, Deed}
-use Rattle.scripts.specs.Commands.{operationOf}
-use Rattle.scripts.specs.Table.{imageText, wordText, bufferText, formatText, commitText, readText, askText, outlistText, recoverText, digestText, showText, logText, helpText}
+use Rattle.scripts.specs.declared.order.Order.the-variants.{Nothing, What, Bytes, Wait, Deed}
+use Rattle.scripts.specs.Commands.{lineOf, shorterOf}
+use Rattle.scripts.specs.Table.{rows}
 
--- a keyword, and what it asks for
-pub record Arm : Type 0 where
-  pub text : List ℕ
-  pub order : Order
-
-abbrev arm : List ℕ → Order → Arm
-arm t o = record { text = t; order = o }
-
--- the keywords that are no operation. The numbers of a call end in e
-abbrev pub arms : A-call → List Arm
-arms k =
-    arm imageText (Image (k .e))
-    ∷ arm wordText (Deed (Word (k .d) (k .e)))
-    ∷ arm bufferText (Buffer (k .e))
-    ∷ arm formatText (Deed (Format (k .c) (k .d) (k .e)))
-    ∷ arm commitText (Deed (Commit (k .e)))
-    ∷ arm openText (Deed (Open (k .e)))
-    ∷ arm traceText (Deed (Trace (record { 0 = k .d }) (k .e)))
-    ∷ arm closeText (Deed (Close (k .e)))
-    ∷ arm localText (Deed (Local (record { 0 = k .d }) (k .e)))
-    ∷ arm readText (Deed (Look (Read (named (k .d) (k .e)))))
-    ∷ arm askText (Deed (Look (Ask (named (k .d) (k .e)))))
-    ∷ arm outlistText (Deed (Look (Outlist (record { 0 = k .e }))))
-    ∷ arm recoverText (Deed (Recover (k .e)))
-    ∷ arm digestText (Deed (Look Digest))
-    ∷ arm showText (Deed (Look Show))
-    ∷ arm logText (Deed (Look (Log (k .e))))
-    ∷ arm helpText (Deed (Look Help))
-    ∷ []
-
--- what the first arm with a keyword asks for
-unfoldable pub chosen : ℕ → List Arm → Order
-chosen w [] = What
-chosen w (a ∷ rest) = cond (eqb w (code 0 (a .text))) (a .order) (chosen w rest)
-
+-- what a keyword that is none of the log's asks for. The numbers of a call end in e
 unfoldable pub keyed : A-call → Order
-keyed k = chosen (k .word) (arms k)
+keyed k = ofRow (λ r. r .reads (k .a) (k .b) (k .c) (k .d) (k .e)) What rows (k .word)
 
--- an operation goes into the waiting transaction
-abbrev pub ordered : A-call → Waiting → Order
+-- an act whose record is a single line is named by that line's words, and its place behind them
+abbrev pub acted : A-call → Line → Order
+acted k (Heading i p s) = keyed k
+acted k (Operation o) = keyed k
+acted k (End n) = keyed k
+acted k (Single a) = Deed (SingleDeed a (k .e))
+acted k Bad = keyed k
+
+-- an operation is named by its line's words, and goes into the waiting transaction
+abbrev pub ordered : A-call → Line → Order
+ordered k (Heading i p s) = acted k (shorterOf k)
 ordered k (Operation o) = Wait o
-ordered k NoOperation = keyed k
+ordered k (End n) = acted k (shorterOf k)
+ordered k (Single a) = acted k (shorterOf k)
+ordered k Bad = acted k (shorterOf k)
 
 unfoldable pub called : A-call → Order
-called k = ordered k (operationOf k)
+called k = ordered k (lineOf k)
 
 unfoldable pub orderOf : Command → Order
 orderOf NoCommand = Nothing

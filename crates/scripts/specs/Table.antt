@@ -1,9 +1,14 @@
--- The keywords of the script's commands, and how many numbers follow each.
-use Prim.Native.Nat.{ℕ}
-use mathlib.Core.Bool.{cond}
+-- The keywords of the script's commands, how many numbers follow each, and what it asks for.
+use Prim.Native.Nat.{ℕ, _+_}
 use mathlib.Core.List.{List, [], _∷_}
-use lib.Dec.{eqb}
-use Rattle.lines.specs.Words.{Row, code, newText, setText, clrText, valText, rootText, unrootText, openText, traceText, closeText, localText}
+use Rattle.kinds.specs.Names.{named, partition}
+use Rattle.lines.specs.declared.line.Line.{Line}
+use Rattle.lines.specs.declared.line.Line.the-variants.{Heading, Operation, End, Single, Bad}
+use Rattle.lines.specs.Words.{Row, row, ofRow, allRows, following, lineBy}
+use Rattle.scripts.specs.declared.order.Look.the-variants.{Read, Ask, Outlist, Digest, Show, Log, Help}
+use Rattle.scripts.specs.declared.order.Deed.the-variants.{Word, Format, Commit, Recover, Look}
+use Rattle.scripts.specs.declared.order.Order.{Order}
+use Rattle.scripts.specs.declared.order.Order.the-variants.{Image, Buffer, Deed}
 
 -- the bytes of each keyword that is none of the log's
 abbrev pub imageText : List ℕ
@@ -45,39 +50,40 @@ logText = 108 ∷ 111 ∷ 103 ∷ []
 abbrev pub helpText : List ℕ
 helpText = 104 ∷ 101 ∷ 108 ∷ 112 ∷ []
 
--- the commands, with how many numbers they have; `bytes`, which any number may follow, stands apart
-unfoldable pub rows : List Row
+-- the commands that are none of the log's lines; `bytes`, which any number may follow, stands apart
+unfoldable pub rows : List (Row Order)
 rows =
-    record { text = imageText; numbers = 1 }
-    ∷ record { text = wordText; numbers = 2 }
-    ∷ record { text = bufferText; numbers = 1 }
-    ∷ record { text = formatText; numbers = 3 }
-    ∷ record { text = newText; numbers = 3 }
-    ∷ record { text = setText; numbers = 5 }
-    ∷ record { text = clrText; numbers = 3 }
-    ∷ record { text = valText; numbers = 3 }
-    ∷ record { text = rootText; numbers = 3 }
-    ∷ record { text = unrootText; numbers = 1 }
-    ∷ record { text = commitText; numbers = 1 }
-    ∷ record { text = openText; numbers = 1 }
-    ∷ record { text = traceText; numbers = 2 }
-    ∷ record { text = closeText; numbers = 1 }
-    ∷ record { text = localText; numbers = 2 }
-    ∷ record { text = readText; numbers = 2 }
-    ∷ record { text = askText; numbers = 2 }
-    ∷ record { text = outlistText; numbers = 1 }
-    ∷ record { text = recoverText; numbers = 1 }
-    ∷ record { text = digestText; numbers = 0 }
-    ∷ record { text = showText; numbers = 0 }
-    ∷ record { text = logText; numbers = 1 }
-    ∷ record { text = helpText; numbers = 0 }
+    row imageText 1 (λ a b c d e. Image e)
+    ∷ row wordText 2 (λ a b c d e. Deed (Word d e))
+    ∷ row bufferText 1 (λ a b c d e. Buffer e)
+    ∷ row formatText 3 (λ a b c d e. Deed (Format c d e))
+    ∷ row commitText 1 (λ a b c d e. Deed (Commit e))
+    ∷ row readText 2 (λ a b c d e. Deed (Look (Read (named d e))))
+    ∷ row askText 2 (λ a b c d e. Deed (Look (Ask (named d e))))
+    ∷ row outlistText 1 (λ a b c d e. Deed (Look (Outlist (partition e))))
+    ∷ row recoverText 1 (λ a b c d e. Deed (Recover e))
+    ∷ row digestText 0 (λ a b c d e. Deed (Look Digest))
+    ∷ row showText 0 (λ a b c d e. Deed (Look Show))
+    ∷ row logText 1 (λ a b c d e. Deed (Look (Log e)))
+    ∷ row helpText 0 (λ a b c d e. Deed (Look Help))
     ∷ []
 
--- `bytes` as a number
-abbrev pub bytesWord : ℕ
-bytesWord = 422944466291
+-- `bytes`
+abbrev pub bytesText : List ℕ
+bytesText = 98 ∷ 121 ∷ 116 ∷ 101 ∷ 115 ∷ []
 
--- how many numbers follow a keyword of a table; 6, more than any has, of what is none
-unfoldable pub takes : List Row → ℕ → ℕ
-takes [] w = 6
-takes (r ∷ rs) w = cond (eqb w (code 0 (r .text))) (r .numbers) (takes rs w)
+-- more numbers than any command has: what is no keyword takes so many
+abbrev pub tooMany : ℕ
+tooMany = 6
+
+-- of a line of the log that n numbers follow: a command names an operation by the same words, an act that is a single line with its place behind them, and no other line
+abbrev pub namedBy : Line → ℕ → ℕ
+namedBy (Heading e p s) n = tooMany
+namedBy (Operation o) n = n
+namedBy (End k) n = tooMany
+namedBy (Single a) n = n + 1
+namedBy Bad n = tooMany
+
+-- how many numbers follow a keyword
+unfoldable pub takes : ℕ → ℕ
+takes w = ofRow (λ r. r .numbers) (namedBy (lineBy allRows w 0 0 0 0 0) (following allRows w)) rows w

@@ -5,14 +5,13 @@ use crate::number::number;
 use crate::run::word_at;
 use crate::table::BYTES;
 use crate::table::takes;
-use kinds::Operation;
 use lines::line::Line;
 use lines::line::finish;
 use lines::machine::Read;
 use lines::machine::Scan;
 ghost use mathlib.Core.Path.{_≡_};
 ghost use Prim.Native.Nat.{_≤_};
-ghost use Rattle.scripts.specs.Commands.{pushed, complete, mostNumbers, begun, nextNumber, numbersFrom, commandOf, operationOf};
+ghost use Rattle.scripts.specs.Commands.{pushed, complete, mostNumbers, begun, nextNumber, numbersFrom, commandOf, lineOf, shorterOf};
 
 // A keyword, how many numbers follow it, and the last five of them: e is the last.
 pub struct Call {
@@ -42,12 +41,6 @@ pub enum Next {
     Number(u32, usize),
     Nothing,
     Bad,
-}
-
-// What a call puts into the waiting transaction.
-pub enum Waiting {
-    Operation(Operation),
-    Nothing,
 }
 
 impl Call {
@@ -95,9 +88,9 @@ impl Call {
         Command::What
     }
 
-    // The operation that a call names, as the log's line of the same words does.
-    pub(crate) fn operation(self) -> Waiting
-        ensures { λ r. ⌜ r ≡ operationOf self ⌝ }
+    // The log's line of the same words.
+    pub(crate) fn line(self) -> Line
+        ensures { λ r. ⌜ r ≡ lineOf self ⌝ }
     {
         let r = Read {
             word: self.word,
@@ -107,16 +100,25 @@ impl Call {
             c: self.c,
             d: self.d,
         };
-        match finish(Scan::Number(r, self.e)) {
-            Line::Operation(o) => Waiting::Operation(o),
-            Line::Heading(_, _, _) => Waiting::Nothing,
-            Line::End(_) => Waiting::Nothing,
-            Line::Open => Waiting::Nothing,
-            Line::Trace(_) => Waiting::Nothing,
-            Line::Close => Waiting::Nothing,
-            Line::Local(_) => Waiting::Nothing,
-            Line::Bad => Waiting::Nothing,
+        finish(Scan::Number(r, self.e))
+    }
+
+    // The log's line of the same words less the last number.
+    pub(crate) fn shorter(self) -> Line
+        ensures { λ r. ⌜ r ≡ shorterOf self ⌝ }
+    {
+        if self.count == 1 {
+            return finish(Scan::Word(self.word));
         }
+        let r = Read {
+            word: self.word,
+            left: 0,
+            a: 0,
+            b: self.a,
+            c: self.b,
+            d: self.c,
+        };
+        finish(Scan::Number(r, self.d))
     }
 }
 

@@ -9,7 +9,7 @@ ghost use mathlib.Core.Path.{_≡_};
 ghost use Rattle.scripts.specs.Numbers.{numberOf, keywordOf, afterEnd};
 
 // What a word is.
-pub enum Parsed {
+pub(crate) enum Parsed {
     Is(u32),
     Not,
 }
@@ -47,10 +47,7 @@ pub(crate) fn number(word: &[u8]) -> Parsed
         Line::End(v) => Parsed::Is(v),
         Line::Heading(_, _, _) => Parsed::Not,
         Line::Operation(_) => Parsed::Not,
-        Line::Open => Parsed::Not,
-        Line::Trace(_) => Parsed::Not,
-        Line::Close => Parsed::Not,
-        Line::Local(_) => Parsed::Not,
+        Line::Single(_) => Parsed::Not,
         Line::Bad => Parsed::Not,
     }
 }

@@ -1,31 +1,28 @@
 // What a line of the script asks for.
 use crate::command::Call;
 use crate::command::Command;
-use crate::command::Waiting;
 use crate::table::ASK;
 use crate::table::BUFFER;
-use crate::table::CLOSE;
 use crate::table::COMMIT;
 use crate::table::DIGEST;
 use crate::table::FORMAT;
 use crate::table::HELP;
 use crate::table::IMAGE;
-use crate::table::LOCAL;
 use crate::table::LOG;
-use crate::table::OPEN;
 use crate::table::OUTLIST;
 use crate::table::READ;
 use crate::table::RECOVER;
 use crate::table::SHOW;
-use crate::table::TRACE;
 use crate::table::WORD;
 use kinds::Name;
 use kinds::Operation;
 use kinds::Partition;
-use kinds::Slot;
+use kinds::Single;
+use kinds::named;
+use lines::line::Line;
 ghost use mathlib.Core.Path.{_≡_};
-ghost use Rattle.kinds.specs.Names.{named};
-ghost use Rattle.scripts.specs.Orders.{keyed, called, orderOf};
+ghost use Rattle.scripts.specs.Commands.{shorterOf};
+ghost use Rattle.scripts.specs.Orders.{keyed, acted, called, orderOf};
 
 // What looks at the lent image and log buffer, and changes neither.
 pub enum Look {
@@ -43,10 +40,8 @@ pub enum Deed {
     Word(usize, u32),
     Format(u32, u32, usize),
     Commit(usize),
-    Open(usize),
-    Trace(Partition, usize),
-    Close(usize),
-    Local(Partition, usize),
+    // An act whose record is a single line, at a place of the log.
+    Single(Single, usize),
     Recover(usize),
     Look(Look),
 }
@@ -63,16 +58,7 @@ pub enum Order {
     Deed(Deed),
 }
 
-fn named(p: u32, s: u32) -> Name
-    ensures { λ r. ⌜ r ≡ named p s ⌝ }
-{
-    Name {
-        partition: Partition(p),
-        slot: Slot(s),
-    }
-}
-
-// What a keyword that is no operation asks for. The numbers of a call end in e.
+// What a keyword that is none of the log's asks for. The numbers of a call end in e.
 fn keyed(k: Call) -> Order
     ensures { λ r. ⌜ r ≡ keyed k ⌝ }
 {
@@ -84,10 +70,6 @@ fn keyed(k: Call) -> Order
         BUFFER => Order::Buffer(to),
         FORMAT => Order::Deed(Deed::Format(k.c, k.d, to)),
         COMMIT => Order::Deed(Deed::Commit(to)),
-        OPEN => Order::Deed(Deed::Open(to)),
-        TRACE => Order::Deed(Deed::Trace(Partition(k.d), to)),
-        CLOSE => Order::Deed(Deed::Close(to)),
-        LOCAL => Order::Deed(Deed::Local(Partition(k.d), to)),
         READ => Order::Deed(Deed::Look(Look::Read(named(k.d, k.e)))),
         ASK => Order::Deed(Deed::Look(Look::Ask(named(k.d, k.e)))),
         OUTLIST => Order::Deed(Deed::Look(Look::Outlist(Partition(k.e)))),
@@ -100,13 +82,29 @@ fn keyed(k: Call) -> Order
     }
 }
 
+// What a keyword that is no operation asks for: an act whose record is a single line has its place behind that line's words.
+fn acted(k: Call) -> Order
+    ensures { λ r. ⌜ r ≡ acted k (shorterOf k) ⌝ }
+{
+    match k.shorter() {
+        Line::Single(a) => Order::Deed(Deed::Single(a, k.e as usize)),
+        Line::Heading(_, _, _) => keyed(k),
+        Line::Operation(_) => keyed(k),
+        Line::End(_) => keyed(k),
+        Line::Bad => keyed(k),
+    }
+}
+
 // What a keyword asks for, with its numbers.
 fn called(k: Call) -> Order
     ensures { λ r. ⌜ r ≡ called k ⌝ }
 {
-    match k.operation() {
-        Waiting::Operation(o) => Order::Wait(o),
-        Waiting::Nothing => keyed(k),
+    match k.line() {
+        Line::Operation(o) => Order::Wait(o),
+        Line::Heading(_, _, _) => acted(k),
+        Line::End(_) => acted(k),
+        Line::Single(_) => acted(k),
+        Line::Bad => acted(k),
     }
 }
 

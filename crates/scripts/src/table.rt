@@ -1,55 +1,52 @@
-// The script's keywords, as numbers: their bytes read as digits in base 256; and how many numbers follow each. The operations are the log's.
+// The script's keywords, as numbers: their bytes read as digits in base 256; and how many numbers follow each. Those of operations and
+// of acts that are a single line are the log's.
+use lines::words::CLOSE;
 use lines::words::CLR;
+use lines::words::LOCAL;
 use lines::words::NEW;
+use lines::words::OPEN;
 use lines::words::ROOT;
 use lines::words::SET;
+use lines::words::TRACE;
 use lines::words::UNROOT;
 use lines::words::VAL;
 ghost use mathlib.Core.Path.{_≡_};
-ghost use Rattle.scripts.specs.Table.{rows, takes};
+ghost use Rattle.scripts.specs.Table.{takes};
 
-pub const IMAGE: u64 = 452806666085;
+pub(crate) const IMAGE: u64 = 452806666085;
 
-pub const WORD: u64 = 2003792484;
+pub(crate) const WORD: u64 = 2003792484;
 
-pub const BUFFER: u64 = 108256368682354;
+pub(crate) const BUFFER: u64 = 108256368682354;
 
-pub const BYTES: u64 = 422944466291;
+pub(crate) const BYTES: u64 = 422944466291;
 
-pub const FORMAT: u64 = 112628847174004;
+pub(crate) const FORMAT: u64 = 112628847174004;
 
-pub const COMMIT: u64 = 109330228406644;
+pub(crate) const COMMIT: u64 = 109330228406644;
 
-pub const OPEN: u64 = lines::words::OPEN;
+pub(crate) const READ: u64 = 1919246692;
 
-pub const TRACE: u64 = lines::words::TRACE;
+pub(crate) const ASK: u64 = 6386539;
 
-pub const CLOSE: u64 = lines::words::CLOSE;
+pub(crate) const OUTLIST: u64 = 31372865310389108;
 
-pub const LOCAL: u64 = lines::words::LOCAL;
+pub(crate) const RECOVER: u64 = 32199625091212658;
 
-pub const READ: u64 = 1919246692;
+pub(crate) const DIGEST: u64 = 110403869045620;
 
-pub const ASK: u64 = 6386539;
+pub(crate) const SHOW: u64 = 1936224119;
 
-pub const OUTLIST: u64 = 31372865310389108;
+pub(crate) const LOG: u64 = 7106407;
 
-pub const RECOVER: u64 = 32199625091212658;
-
-pub const DIGEST: u64 = 110403869045620;
-
-pub const SHOW: u64 = 1936224119;
-
-pub const LOG: u64 = 7106407;
-
-pub const HELP: u64 = 1751477360;
+pub(crate) const HELP: u64 = 1751477360;
 
 // More numbers than any command has: what is no keyword takes so many.
-pub const NONE: usize = 6;
+pub(crate) const NONE: usize = 6;
 
 // How many numbers follow a keyword. `bytes` has none here, since any number may follow it.
 pub(crate) fn takes(w: u64) -> usize
-    ensures { λ r. ⌜ r ≡ takes rows w ⌝ }
+    ensures { λ r. ⌜ r ≡ takes w ⌝ }
 {
     match w {
         DIGEST | SHOW | HELP => 0,

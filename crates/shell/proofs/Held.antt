@@ -11,7 +11,7 @@ use Rattle.scripts.specs.declared.order.Order.{Order}
 use Rattle.catalogue.specs.Call.{outcome}
 use Rattle.desk.specs.declared.Desk.{Desk}
 use Rattle.desk.specs.declared.Turn.{Turn}
-use Rattle.desk.specs.Desk.{Lent, stepOf}
+use Rattle.desk.specs.Desk.{Lent, turnOf}
 use Rattle.desk.proofs.Staying.{step-stays}
 use Rattle.reporting.specs.Report.{mostWords}
 use Rattle.shell.specs.declared.feed.Feed.{Feed}
@@ -41,7 +41,7 @@ held-first s img log script f m n k b g =
 
 -- after a line
 module _ (d : Desk) (img log script : List ℕ) (f : Feed) (n : ℕ) (h : Held d img log script f n) (line : List ℕ) (ops : List Operation) (o : Order) (t : Turn) (img′ log′ : List ℕ)
-    (q : outcome t img′ log′ ≡ stepOf o line d ops img log) (m : mostWords ≡ length img′) (b : 65536 ≡ length log′) where
+    (q : outcome t img′ log′ ≡ turnOf o line d ops img log) (m : mostWords ≡ length img′) (b : 65536 ≡ length log′) where
   pub lent-next : Lent (t .desk) img′ log′
   lent-next =
       let s = step-stays line d ops img log (h .lent) o t img′ log′ q in

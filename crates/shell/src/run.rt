@@ -6,7 +6,7 @@ use crate::out::flush;
 use crate::out::space;
 use crate::say::say;
 use crate::start::begin;
-use desk::Said;
+use desk::Response;
 use desk::step;
 use image::WORDS;
 use kinds::Operation;
@@ -41,8 +41,8 @@ fn asked(line: &[u8]) -> Order {
     order_of(parse(line))
 }
 
-fn is_what(said: Said) -> bool {
-    if let Said::What = said {
+fn is_what(said: Response) -> bool {
+    if let Response::What = said {
         return true;
     }
     false

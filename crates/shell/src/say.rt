@@ -16,7 +16,7 @@ use crate::out::flush;
 use crate::out::send_front;
 use crate::show::show;
 use desk::Desk;
-use desk::Said;
+use desk::Response;
 use image::WORDS;
 use scripts::order::Look;
 ghost use Rattle.desk.specs.Desk.{Lent};
@@ -51,7 +51,7 @@ fn seen_on(l: Look, d: Desk, img: &[u32], log: &[u8], out: &mut [u8; 4096], at: 
 }
 
 pub(crate) fn say(
-    said: Said,
+    said: Response,
     d: Desk,
     img: &[u32; WORDS],
     log: &[u8; 65536],
@@ -61,14 +61,14 @@ pub(crate) fn say(
     requires { ⌜ Lent d (now img) (now log) ⌝ }
 {
     match said {
-        Said::Nothing => at,
-        Said::What => what(out, at),
-        Said::Ok => ok(out, at),
-        Said::Waits(n) => counted(out, at, b"waits", n),
-        Said::Done(a) => answered(out, at, a),
-        Said::Closed(c) => closed(out, at, c),
-        Said::Freed(f) => freed(out, at, f),
-        Said::Recovered(r) => recovered(out, at, r),
-        Said::Look(l) => seen_on(l, d, img, log, out, at),
+        Response::Nothing => at,
+        Response::What => what(out, at),
+        Response::Ok => ok(out, at),
+        Response::Waits(n) => counted(out, at, b"waits", n),
+        Response::Done(a) => answered(out, at, a),
+        Response::Closed(c) => closed(out, at, c),
+        Response::Freed(f) => freed(out, at, f),
+        Response::Recovered(r) => recovered(out, at, r),
+        Response::Look(l) => seen_on(l, d, img, log, out, at),
     }
 }

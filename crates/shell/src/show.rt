@@ -1,4 +1,5 @@
-// The lent image for a person. It shows any words: of an image that is not sound it says so, and shows the words that are not 0.
+// The lent image for a person. It shows any words: of an image that is not sound it says so, and shows the words that are not 0. A sound one,
+// of p partitions and s slots, is read by its keys; `Within` keeps every key in range.
 use crate::answer::counted;
 use crate::answer::target;
 use crate::out::byte;
@@ -7,22 +8,25 @@ use crate::out::end;
 use crate::out::number;
 use crate::out::text;
 use crate::out::valued;
+use image::field_at;
+use image::flag_at;
+use image::head_at;
+use image::inlist_at;
+use image::payload_at;
+use image::root_at;
+use image::state_at;
+use kinds::Field;
+use kinds::Partition;
+use kinds::Target;
 use kinds::target_of;
-ghost use Prim.Native.Nat.{_+_, _≤_};
-ghost use lib.ListN.{length};
-ghost use Rattle.model.specs.Image.{stride};
+ghost use Prim.Native.Nat.{_*_, _<_};
+ghost use Rattle.image.specs.Within.{Within};
 
-// The word at a place; 0 past the end.
-fn word(words: &[u32], i: usize) -> u32 {
-    if i < words.len() {
-        return words[i];
-    }
-    0
-}
+const ROOTS: usize = Target::ROOTS as usize;
 
-fn wide(v: u32) -> u64 {
-    v as u64
-}
+const FLAGS: usize = Partition::LIMIT as usize;
+
+const FIELDS: usize = Field::LIMIT as usize;
 
 fn raw(out: &mut [u8; 4096], at: usize, words: &[u32]) -> usize {
     let mut n = text(&mut *out, at, b"not sound\n");
@@ -43,28 +47,21 @@ fn raw_word(out: &mut [u8; 4096], at: usize, i: usize, v: u32) -> usize {
     end(out, b)
 }
 
-fn head(out: &mut [u8; 4096], at: usize, words: &[u32]) -> usize {
-    let a = valued(&mut *out, at, b"partitions", word(words, 0) as u64);
-    let b = valued(&mut *out, a, b" slots", word(words, 1) as u64);
-    end(out, b)
+fn head(out: &mut [u8; 4096], at: usize, p: usize, s: usize) -> usize {
+    let a = valued(&mut *out, at, b"partitions", p as u64);
+    counted(out, a, b" slots", s)
 }
 
-fn phase(out: &mut [u8; 4096], at: usize, words: &[u32]) -> usize {
-    if word(words, image::PHASE) == 0 {
+fn phase(out: &mut [u8; 4096], at: usize, img: &[u32], p: usize, s: usize) -> usize
+    requires { ⌜ Within p s (now img) ⌝ }
+{
+    if head_at(img, image::PHASE) == 0 {
         return text(out, at, b"phase shut\n");
     }
-    let a = valued(
-        &mut *out,
-        at,
-        b"phase open traces",
-        word(words, image::COUNT) as u64,
-    );
-    let b = valued(
-        &mut *out,
-        a,
-        b" allowance",
-        word(words, image::ALLOWANCE) as u64,
-    );
+    let traces = head_at(img, image::COUNT);
+    let allowance = head_at(img, image::ALLOWANCE);
+    let a = valued(&mut *out, at, b"phase open traces", traces as u64);
+    let b = valued(&mut *out, a, b" allowance", allowance as u64);
     end(out, b)
 }
 
@@ -77,29 +74,35 @@ fn root(out: &mut [u8; 4096], at: usize, r: usize, w: u32) -> usize {
     end(out, b)
 }
 
-fn roots(out: &mut [u8; 4096], at: usize, words: &[u32]) -> usize {
+fn roots(out: &mut [u8; 4096], at: usize, img: &[u32], p: usize, s: usize) -> usize
+    requires { ⌜ Within p s (now img) ⌝ }
+{
     let mut n = at;
     let mut r = 0;
-    while r < image::ANCHORS {
-        n = root(&mut *out, n, r, word(words, image::ROOT + r));
+    while r < ROOTS {
+        let w = root_at(img, r);
+        n = root(&mut *out, n, r, w);
         r += 1;
     }
     n
 }
 
-fn clean(out: &mut [u8; 4096], at: usize, p: usize, flag: u32) -> usize {
+fn clean(out: &mut [u8; 4096], at: usize, q: usize, flag: u32) -> usize {
     if flag == 0 {
         return at;
     }
-    counted(out, at, b"clean", p)
+    counted(out, at, b"clean", q)
 }
 
-fn flags(out: &mut [u8; 4096], at: usize, words: &[u32]) -> usize {
+fn flags(out: &mut [u8; 4096], at: usize, img: &[u32], p: usize, s: usize) -> usize
+    requires { ⌜ Within p s (now img) ⌝ }
+{
     let mut n = at;
-    let mut p = 0;
-    while p < 16 {
-        n = clean(&mut *out, n, p, word(words, image::FLAG + p));
-        p += 1;
+    let mut q = 0;
+    while q < FLAGS {
+        let w = flag_at(img, q);
+        n = clean(&mut *out, n, q, w);
+        q += 1;
     }
     n
 }
@@ -118,69 +121,71 @@ fn mark(out: &mut [u8; 4096], at: usize, state: u32) -> usize {
     text(out, at, b" unmarked fields")
 }
 
-// The four fields of the object whose words start at a place.
-fn fields(out: &mut [u8; 4096], at: usize, words: &[u32], from: usize) -> usize
-    requires { ⌜ from + stride ≤ length (now words) ⌝ }
+// The fields of the object at place j.
+fn fields(out: &mut [u8; 4096], at: usize, img: &[u32], p: usize, s: usize, j: usize) -> usize
+    requires { ⌜ Within p s (now img) ⌝ }
+    requires { ⌜ j < p * s ⌝ }
 {
     let mut n = at;
-    let mut k = 2;
-    while k < image::INLIST {
-        n = target(&mut *out, n, target_of(words[from + k]));
+    let mut k = 0;
+    while k < FIELDS {
+        let w = field_at(img, j, k);
+        n = target(&mut *out, n, target_of(w));
         k += 1;
     }
     n
 }
 
-// The object whose words start at a place.
-fn object(out: &mut [u8; 4096], at: usize, words: &[u32], from: usize, p: usize, s: usize) -> usize
-    requires { ⌜ from + stride ≤ length (now words) ⌝ }
+// The object at place j.
+fn object(out: &mut [u8; 4096], at: usize, img: &[u32], p: usize, s: usize, j: usize) -> usize
+    requires { ⌜ Within p s (now img) ⌝ }
+    requires { ⌜ j < p * s ⌝ }
 {
-    let state = words[from];
+    let state = state_at(img, j);
+    let payload = payload_at(img, j);
+    let count = inlist_at(img, j);
     if state == 0 {
         return at;
     }
     let a = text(&mut *out, at, b"object ");
-    let b = place(&mut *out, a, p, s);
-    let c = valued(&mut *out, b, b" payload", wide(words[from + 1]));
+    let b = place(&mut *out, a, j / s, j % s);
+    let c = valued(&mut *out, b, b" payload", payload as u64);
     let d = mark(&mut *out, c, state);
-    let e = fields(&mut *out, d, words, from);
-    let f = valued(&mut *out, e, b" counted", wide(words[from + image::INLIST]));
+    let e = fields(&mut *out, d, img, p, s, j);
+    let f = valued(&mut *out, e, b" counted", count as u64);
     end(out, f)
 }
 
 // Every object, in partition then slot order.
-fn objects(out: &mut [u8; 4096], at: usize, words: &[u32]) -> usize {
-    let slots = word(words, 1) as usize;
-    if slots == 0 {
-        return at;
-    }
-    if words.len() < image::FRONT {
-        return at;
-    }
-    let places = (words.len() - image::FRONT) / image::STRIDE;
+fn objects(out: &mut [u8; 4096], at: usize, img: &[u32], p: usize, s: usize) -> usize
+    requires { ⌜ Within p s (now img) ⌝ }
+{
+    let places = p * s;
     let mut n = at;
     let mut j = 0;
     while j < places {
-        n = object(
-            &mut *out,
-            n,
-            words,
-            image::FRONT + image::STRIDE * j,
-            j / slots,
-            j % slots,
-        );
+        n = object(&mut *out, n, img, p, s, j);
         j += 1;
     }
     n
 }
 
-pub(crate) fn show(out: &mut [u8; 4096], at: usize, words: &[u32]) -> usize {
-    if soundness::sound(words) {
-        let mut n = head(&mut *out, at, words);
-        n = phase(&mut *out, n, words);
-        n = roots(&mut *out, n, words);
-        n = flags(&mut *out, n, words);
-        return objects(out, n, words);
+// An image of p partitions and s slots.
+fn whole(out: &mut [u8; 4096], at: usize, img: &[u32], p: usize, s: usize) -> usize
+    requires { ⌜ Within p s (now img) ⌝ }
+{
+    let mut n = head(&mut *out, at, p, s);
+    n = phase(&mut *out, n, img, p, s);
+    n = roots(&mut *out, n, img, p, s);
+    n = flags(&mut *out, n, img, p, s);
+    objects(out, n, img, p, s)
+}
+
+pub(crate) fn show(out: &mut [u8; 4096], at: usize, img: &[u32]) -> usize {
+    if soundness::sound(img) {
+        let p = head_at(img, image::PARTITIONS);
+        let s = head_at(img, image::SLOTS);
+        return whole(out, at, img, p as usize, s as usize);
     }
-    raw(out, at, words)
+    raw(out, at, img)
 }

@@ -1,26 +1,21 @@
 -- The tests that soundness makes at every index, by name, and the tally of foreign references that its pass over the slots leaves.
-use Prim.Native.Nat.{ℕ, _+_, _*_, _/_, _%_, _≤_, _<_}
+use Prim.Native.Nat.{ℕ, _*_, _/_, _%_, _<_}
 use mathlib.Core.Path.{_≡_}
-use mathlib.Core.Bool.{Bool, cond}
+use mathlib.Core.Bool.{Bool}
 use mathlib.Core.List.{List}
-use lib.Dec.{leb}
 use lib.ListN.{length, getD}
-use Rattle.loops.specs.Loop.{both, every, tally}
-use Rattle.kinds.specs.Names.{mostPartitions, mostSlots}
-use Rattle.model.specs.Image.{Image, front, stride, anchors, field, phase, get}
-use Rattle.model.specs.Acts.{isOpen}
+use Rattle.loops.specs.Loop.{tally}
+use Rattle.kinds.specs.Names.{mostPartitions}
+use Rattle.model.specs.Image.{Image, Sized, anchors, field, get}
 use Rattle.model.specs.Outlist.{mostPlaces}
-use Rattle.model.specs.Sound.{points, slotOk, countOk, rootOk, flagOk, flagDown, unmarkedAt, openOk, shutOk}
+use Rattle.model.specs.Sound.{Limits, points, rootOk, flagOk, flagDown, unmarkedAt}
 use Rattle.soundness.specs.declared.Check.{Check}
 use Rattle.soundness.specs.declared.Check.the-variants.{Root, Flag, Down, Unmarked}
 
--- P is 1 to 16, S is 1 to 64, and the length agrees with them
+-- P and S are in their limits, and the length agrees with them
 pub record Shaped (P S : ℕ) (x : Image) : Type 0 where
-  pub some-partition : 0 < P
-  pub small : P ≤ mostPartitions
-  pub some-slot : 0 < S
-  pub wide : S ≤ mostSlots
-  pub long : length x ≡ front + stride * (P * S)
+  pub limits : Limits P S
+  pub long : Sized (P * S) x
 
 -- field number g of the row of all fields holds a foreign reference to i
 abbrev pub pointing : ℕ → Image → ℕ → ℕ → Bool
@@ -43,12 +38,3 @@ testAt P S x Root = rootOk P S x
 testAt P S x Flag = flagOk P x
 testAt P S x Down = flagDown x
 testAt P S x Unmarked = unmarkedAt x
-
--- what is left of the test where P, S and the length agree
-unfoldable pub restOk : ℕ → ℕ → Image → Bool
-restOk P S x =
-    both (leb (get x phase) 1)
-    (both (every (P * S) (slotOk P S x))
-    (both (every (P * S) (countOk S (P * S) x))
-    (both (every anchors (rootOk P S x))
-    (both (every mostPartitions (flagOk P x)) (cond (isOpen x) (openOk P S x) (shutOk P S x))))))

@@ -8,15 +8,15 @@ ghost use mathlib.Core.Path.{_≡_};
 ghost use Prim.Native.Nat.{_+_, _*_, _<_, _≤_};
 ghost use mathlib.Core.Bool.{true, not};
 ghost use lib.Dec.{eqb};
-ghost use lib.ListN.{length, replicate};
+ghost use lib.ListN.{replicate};
 ghost use Rattle.loops.specs.Loop.{bit, every};
-ghost use Rattle.kinds.specs.Names.{mostPartitions, mostSlots};
-ghost use Rattle.model.specs.Image.{Key, payload, inlist, field, addr, get, partOf};
+ghost use Rattle.kinds.specs.Names.{mostSlots};
+ghost use Rattle.model.specs.Image.{Key, flag, state, field, Has, get, partOf};
 ghost use Rattle.model.specs.Sound.{refOk, freeOk, slotOk, countOk, flagOk, flagDown, unmarkedAt, openOk, shutOk, soundAt, isSound};
 ghost use Rattle.soundness.specs.Checks.{Shaped, Tallied, reach, testAt};
 
 // What is tested at every index beside the slots: the roots, the flags, and with the phase shut that no flag is up and nothing is marked.
-pub enum Check {
+enum Check {
     Root,
     Flag,
     Down,
@@ -41,7 +41,7 @@ fn ref_ok(img: &[u32], p: usize, s: usize, w: u32) -> bool
         return false;
     }
     let j = image::place_of(w, s);
-    if img[image::FRONT + image::STRIDE * j] == 0 {
+    if image::state_at(img, j) == 0 {
         return false;
     }
     true
@@ -58,8 +58,8 @@ fn foreign(q: usize, r: usize) -> u32
     1
 }
 
-// A field of place j, which is in partition q: it is nothing or names a slot in use, and a foreign reference is tallied. (`ref_ok` spelled out:
-// the tally needs the partition and the place that it computes.)
+// Field k of place j, which is in partition q: it is nothing or names a slot in use, and a foreign reference is tallied. (`ref_ok` spelled out: the
+// tally needs the partition and the place that it computes, and a call of it with both computed again costs a call of the catalogue 4 %.)
 fn field(
     img: &[u32],
     p: usize,
@@ -74,7 +74,7 @@ fn field(
     requires { ⌜ Tallied s (now img) (4 * j + k) (now counts) ⌝ }
     ensures { λ r. ⌜ (r ≡ refOk p s (now (img .entry)) (field j k)) × (r ≡ true → Tallied s (now (img .entry)) (4 * j + k + 1) (now (counts .exit))) ⌝ }
 {
-    let w = img[image::FRONT + image::STRIDE * j + 2 + k] as usize;
+    let w = image::field_at(img, j, k) as usize;
     if w == 0 {
         return true;
     }
@@ -88,7 +88,7 @@ fn field(
         return false;
     }
     let i = r * s + t;
-    if img[image::FRONT + image::STRIDE * i] == 0 {
+    if image::state_at(img, i) == 0 {
         return false;
     }
     counts[i] = counts[i] + foreign(q, r);
@@ -114,25 +114,19 @@ fn fields(img: &[u32], p: usize, s: usize, q: usize, j: usize, counts: &mut [u32
 }
 
 // Payload and fields of a free slot are 0.
-fn free_ok(img: &[u32], j: usize) -> bool
-    requires { ⌜ addr (inlist j) < length (now img) ⌝ }
+fn free_ok(img: &[u32], p: usize, s: usize, j: usize) -> bool
+    requires { ⌜ Shaped p s (now img) × (j < p * s) ⌝ }
     ensures { λ r. ⌜ r ≡ freeOk (now (img .entry)) j ⌝ }
 {
-    let at = image::FRONT + image::STRIDE * j;
-    if img[at + 1] != 0 {
+    if image::payload_at(img, j) != 0 {
         return false;
     }
-    if img[at + 2] != 0 {
-        return false;
-    }
-    if img[at + 3] != 0 {
-        return false;
-    }
-    if img[at + 4] != 0 {
-        return false;
-    }
-    if img[at + 5] != 0 {
-        return false;
+    let mut k: usize = 0;
+    while k < 4 {
+        if image::field_at(img, j, k) != 0 {
+            return false;
+        }
+        k += 1;
     }
     true
 }
@@ -144,9 +138,9 @@ fn slot(img: &[u32], p: usize, s: usize, q: usize, j: usize, counts: &mut [u32; 
     requires { ⌜ Tallied s (now img) (4 * j) (now counts) ⌝ }
     ensures { λ r. ⌜ (r ≡ slotOk p s (now (img .entry)) j) × (r ≡ true → Tallied s (now (img .entry)) (4 * (j + 1)) (now (counts .exit))) ⌝ }
 {
-    let x = img[image::FRONT + image::STRIDE * j];
+    let x = image::state_at(img, j);
     if x == 0 {
-        return free_ok(img, j);
+        return free_ok(img, p, s, j);
     }
     if 2 < x {
         return false;
@@ -194,7 +188,7 @@ fn counted(img: &[u32], p: usize, s: usize, counts: &[u32; 1024]) -> bool
     let end = p * s;
     let mut j: usize = 0;
     while j < end {
-        if img[image::FRONT + image::STRIDE * j + image::INLIST] != counts[j] {
+        if image::inlist_at(img, j) != counts[j] {
             return false;
         }
         j += 1;
@@ -204,10 +198,10 @@ fn counted(img: &[u32], p: usize, s: usize, counts: &[u32; 1024]) -> bool
 
 // A flag is 0 or 1, and 0 from partition P on.
 fn flag_ok(img: &[u32], p: usize, i: usize) -> bool
-    requires { ⌜ (i < mostPartitions) × (37 ≤ length (now img)) ⌝ }
+    requires { ⌜ Has (now img) (flag i) ⌝ }
     ensures { λ r. ⌜ r ≡ flagOk p (now (img .entry)) i ⌝ }
 {
-    let x = img[image::FLAG + i];
+    let x = image::flag_at(img, i);
     if 1 < x {
         return false;
     }
@@ -222,10 +216,10 @@ fn flag_ok(img: &[u32], p: usize, i: usize) -> bool
 
 // A flag is 0.
 fn flag_down(img: &[u32], i: usize) -> bool
-    requires { ⌜ (i < mostPartitions) × (37 ≤ length (now img)) ⌝ }
+    requires { ⌜ Has (now img) (flag i) ⌝ }
     ensures { λ r. ⌜ r ≡ flagDown (now (img .entry)) i ⌝ }
 {
-    if img[image::FLAG + i] == 0 {
+    if image::flag_at(img, i) == 0 {
         return true;
     }
     false
@@ -233,10 +227,10 @@ fn flag_down(img: &[u32], i: usize) -> bool
 
 // A place has no mark.
 fn unmarked(img: &[u32], j: usize) -> bool
-    requires { ⌜ addr (payload j) < length (now img) ⌝ }
+    requires { ⌜ Has (now img) (state j) ⌝ }
     ensures { λ r. ⌜ r ≡ unmarkedAt (now (img .entry)) j ⌝ }
 {
-    if img[image::FRONT + image::STRIDE * j] == 2 {
+    if image::state_at(img, j) == 2 {
         return false;
     }
     true
@@ -249,7 +243,7 @@ fn test(img: &[u32], p: usize, s: usize, k: Check, i: usize) -> bool
     ensures { λ r. ⌜ r ≡ testAt p s (now (img .entry)) k i ⌝ }
 {
     match k {
-        Check::Root => ref_ok(img, p, s, img[image::ROOT + i]),
+        Check::Root => ref_ok(img, p, s, image::root_at(img, i)),
         Check::Flag => flag_ok(img, p, i),
         Check::Down => flag_down(img, i),
         Check::Unmarked => unmarked(img, i),
@@ -278,11 +272,11 @@ fn open_ok(img: &[u32], p: usize, s: usize) -> bool
     requires { ⌜ Shaped p s (now img) ⌝ }
     ensures { λ r. ⌜ r ≡ openOk p s (now (img .entry)) ⌝ }
 {
-    let a = img[image::ALLOWANCE];
+    let a = image::head_at(img, image::ALLOWANCE);
     if p + p * s < a as usize {
         return false;
     }
-    if a < img[image::COUNT] {
+    if a < image::head_at(img, image::COUNT) {
         return false;
     }
     true
@@ -293,10 +287,10 @@ fn shut_ok(img: &[u32], p: usize, s: usize) -> bool
     requires { ⌜ Shaped p s (now img) ⌝ }
     ensures { λ r. ⌜ r ≡ shutOk p s (now (img .entry)) ⌝ }
 {
-    if img[image::COUNT] != 0 {
+    if image::head_at(img, image::COUNT) != 0 {
         return false;
     }
-    if img[image::ALLOWANCE] != 0 {
+    if image::head_at(img, image::ALLOWANCE) != 0 {
         return false;
     }
     let down = all(img, p, s, Check::Down, kinds::Partition::LIMIT as usize);
@@ -311,7 +305,7 @@ fn sound_at(img: &[u32], p: usize, s: usize) -> bool
     requires { ⌜ Shaped p s (now img) ⌝ }
     ensures { λ r. ⌜ r ≡ soundAt p s (now (img .entry)) ⌝ }
 {
-    let phase = img[image::PHASE];
+    let phase = image::head_at(img, image::PHASE);
     if 1 < phase {
         return false;
     }
@@ -342,14 +336,13 @@ fn sound_at(img: &[u32], p: usize, s: usize) -> bool
 pub fn sound(img: &[u32]) -> bool
     ensures { λ r. ⌜ r ≡ isSound (now (img .entry)) ⌝ }
 {
-    let n = img.len();
-    if n < image::FRONT {
+    if !image::has_front(img) {
         return false;
     }
-    let p = img[0];
-    let s = img[1];
+    let p = image::head_at(img, image::PARTITIONS);
+    let s = image::head_at(img, image::SLOTS);
     // refusal 2 of format is the first test of soundness: P, S and the length
-    let v = image::judge_format(n, p, s);
+    let v = image::judge_format(img.len(), p, s);
     match v {
         kinds::Verdict::Accepted => sound_at(img, p as usize, s as usize),
         kinds::Verdict::Refused(_) => false,

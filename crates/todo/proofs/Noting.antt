@@ -1,6 +1,6 @@
--- Laws of noting: a place is noted in what room there is, a word if it names one of the places, a row word by word.
+-- Laws of noting: a place is noted in what room there is, a word if it names one of the places, roots and fields one by one.
 -- Assumes nothing.
-use Prim.Native.Nat.{ℕ, _+_, _*_, _-_, _≤_, _<_}
+use Prim.Native.Nat.{ℕ, _+_, _-_, _≤_, _<_}
 use mathlib.Core.Path.{_≡_, refl, sym, _∙_}
 use mathlib.Core.Bool.{true, false, not}
 use mathlib.Core.Logic.{_≢_}
@@ -12,13 +12,13 @@ use borrow.Author.Tests.{lt-ltb, le-ltb, eq-eqb, ne-eqb}
 use Rattle.loops.specs.Loop.{each}
 use Rattle.loops.proofs.Tests.{is-false, both-false}
 use Rattle.loops.proofs.Turns.{each-none, each-more, each-done}
-use Rattle.model.specs.Image.{Image, front, stride, addr, get, placeOf}
+use Rattle.model.specs.Image.{Image, root, field, anchors, get, placeOf}
 use Rattle.model.specs.Walk.{Todo}
 use Rattle.model.specs.Questions.{Bits, hasBit, addBit}
 use Rattle.model.specs.Outlist.{mostPlaces}
 use Rattle.model.proofs.Bits.{Wide, none-has, bit-same, bit-other, bit-had}
 use Rattle.model.proofs.Walking.{longer-none, longer-one, longer-then, todo-none, todo-most, todo-more}
-use Rattle.todo.specs.Notes.{noteWord, noteRow, noteFields, Noted, More}
+use Rattle.todo.specs.Notes.{noteWord, noteRoots, noteFields, Noted, More}
 
 -- at first nothing is noted
 pub noted-none : {lo n : ℕ} (marks : Bits) (list : List ℕ) → marks ≡ replicate mostPlaces 0 → list ≡ replicate mostPlaces 0 → lo + n ≤ mostPlaces → Noted lo n marks list 0
@@ -92,28 +92,25 @@ module _ (S lo n w : ℕ) (b : Bits) where
     unfolding noteWord
     word-in ne h k = rw (← e, ne-eqb w 0 ne, le-ltb j lo h, lt-ltb j (lo + n) k)
 
--- a row, word by word
-module _ (S lo n : ℕ) (img : Image) (from : ℕ) (b : Bits) where
-  pub row-none : b ≡ noteRow S lo n img from 0 b
-  unfolding noteRow
-  row-none = each-none _ b
+-- the roots, one by one
+module _ (S lo n : ℕ) (img : Image) (b : Bits) where
+  -- after the first k of them
+  abbrev pub rootsNoted : ℕ → Bits
+  rootsNoted k = each k (λ c r. noteWord S lo n (get img (root r)) c) b
 
-  pub row-more : (k : ℕ) {c d : Bits} → c ≡ noteRow S lo n img from k b → d ≡ noteWord S lo n (getD img (from + k) 0) c → d ≡ noteRow S lo n img from (k + 1) b
-  unfolding noteRow
-  row-more k {c} e q = q ∙ each-more _ b k c e
+  pub roots-none : b ≡ rootsNoted 0
+  roots-none = each-none _ b
 
-  pub row-done : (count k : ℕ) {c : Bits} → k ≤ count → count ≤ k → c ≡ noteRow S lo n img from k b → c ≡ noteRow S lo n img from count b
-  unfolding noteRow
-  row-done count k {c} h g e = each-done _ b count k c h g e
+  pub roots-more : (k w : ℕ) {c d : Bits} → w ≡ get img (root k) → c ≡ rootsNoted k → d ≡ noteWord S lo n w c → d ≡ rootsNoted (k + 1)
+  roots-more k w {c} q e h = h ∙ rw q (each-more _ b k c e)
 
--- the four fields, one by one, at the addresses a1 to a4
-pub fields-all : (S lo n : ℕ) (img : Image) (j a1 a2 a3 a4 : ℕ) (b : Bits) {c d e f : Bits} → a1 ≡ front + stride * j + 2 → a2 ≡ a1 + 1 → a3 ≡ a1 + 2 → a4 ≡ a1 + 3
-    → c ≡ noteWord S lo n (getD img a1 0) b → d ≡ noteWord S lo n (getD img a2 0) c → e ≡ noteWord S lo n (getD img a3 0) d → f ≡ noteWord S lo n (getD img a4 0) e
-    → f ≡ noteFields S lo n img j b
-unfolding noteFields each get addr
-fields-all S lo n img j a1 a2 a3 a4 b q1 q2 q3 q4 h1 h2 h3 h4 =
-    let z1 : front + stride * j + 2 + 0 ≡ a1 = omega arith in
-    let z2 : front + stride * j + 2 + 1 ≡ a2 = omega arith in
-    let z3 : front + stride * j + 2 + 2 ≡ a3 = omega arith in
-    let z4 : front + stride * j + 2 + 3 ≡ a4 = omega arith in
-    rw (z1, z2, z3, z4, ← h1, ← h2, ← h3) h4
+  pub roots-done : (k : ℕ) {c : Bits} → k ≤ anchors → anchors ≤ k → c ≡ rootsNoted k → c ≡ noteRoots S lo n img b
+  unfolding noteRoots
+  roots-done k {c} h g e = each-done _ b anchors k c h g e
+
+-- the four fields, one by one
+pub fields-all : (S lo n : ℕ) (img : Image) (j : ℕ) (b : Bits) {v w x y : ℕ} {c d e f : Bits}
+    → v ≡ get img (field j 0) → w ≡ get img (field j 1) → x ≡ get img (field j 2) → y ≡ get img (field j 3)
+    → c ≡ noteWord S lo n v b → d ≡ noteWord S lo n w c → e ≡ noteWord S lo n x d → f ≡ noteWord S lo n y e → f ≡ noteFields S lo n img j b
+unfolding noteFields each
+fields-all S lo n img j b q₀ q₁ q₂ q₃ h₀ h₁ h₂ h₃ = rw (← q₀, ← q₁, ← q₂, ← q₃, ← h₀, ← h₁, ← h₂) h₃

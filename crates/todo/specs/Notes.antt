@@ -4,9 +4,9 @@ use mathlib.Core.Path.{_≡_}
 use mathlib.Core.Bool.{Bool, not, cond}
 use mathlib.Core.List.{List}
 use lib.Dec.{eqb, ltb}
-use lib.ListN.{length, getD}
+use lib.ListN.{length}
 use Rattle.loops.specs.Loop.{both, each}
-use Rattle.model.specs.Image.{Image, field, get, placeOf}
+use Rattle.model.specs.Image.{Image, root, field, anchors, get, placeOf}
 use Rattle.model.specs.Spread.{spread}
 use Rattle.model.specs.Walk.{Todo, Longer}
 use Rattle.model.specs.Acts.{refers, target}
@@ -21,9 +21,9 @@ among lo n j = both (not (ltb j lo)) (ltb j (lo + n))
 unfoldable pub noteWord : ℕ → ℕ → ℕ → ℕ → Bits → Bits
 noteWord S lo n w b = cond (both (not (eqb w 0)) (among lo n (placeOf S w))) (addBit b (placeOf S w)) b
 
--- the same of `count` words from an address on
-unfoldable pub noteRow : ℕ → ℕ → ℕ → Image → ℕ → ℕ → Bits → Bits
-noteRow S lo n img from count b = each count (λ c i. noteWord S lo n (getD img (from + i) 0) c) b
+-- the same of the roots
+unfoldable pub noteRoots : ℕ → ℕ → ℕ → Image → Bits → Bits
+noteRoots S lo n img b = each anchors (λ c r. noteWord S lo n (get img (root r)) c) b
 
 -- the same of the four fields of the object at j
 unfoldable pub noteFields : ℕ → ℕ → ℕ → Image → ℕ → Bits → Bits

@@ -1,6 +1,7 @@
 // Runs the bodies on standard input through the cursor, at every edge of the paper's rules for a line, and prints for each where it starts and what
 // line it is; last the tail. The stored answers (stdout) were made by answers.py from the paper's rules alone. Proved: no index out of range, and it ends.
 use kinds::Operation;
+use kinds::Single;
 use kinds::Target;
 use lines::cursor::Cursor;
 use lines::cursor::Step;
@@ -60,6 +61,21 @@ fn show_operation(o: Operation) {
     }
 }
 
+fn show_single(a: Single) {
+    match a {
+        Single::Open => say(b" open"),
+        Single::Trace(p) => {
+            say(b" trace");
+            number(p.0);
+        }
+        Single::Close => say(b" close"),
+        Single::Local(p) => {
+            say(b" local");
+            number(p.0);
+        }
+    }
+}
+
 fn show(l: Line) {
     match l {
         Line::Heading(e, p, s) => {
@@ -71,16 +87,7 @@ fn show(l: Line) {
             say(b" end");
             number(n);
         }
-        Line::Open => say(b" open"),
-        Line::Trace(p) => {
-            say(b" trace");
-            number(p.0);
-        }
-        Line::Close => say(b" close"),
-        Line::Local(p) => {
-            say(b" local");
-            number(p.0);
-        }
+        Line::Single(a) => show_single(a),
         Line::Bad => say(b" bad"),
     }
     say(b"\n");

@@ -1,19 +1,24 @@
-// The verdicts on open, trace, close, local and outlist. Each judge leaves the image alone and is proved equal to the model's
-// (model/specs/Judge.antt). Their loops are one search for the first that meets a test (specs/Searches.antt); what a search comes to is
+// The verdicts on acts whose record is a single line (`judge`) and on an outlist. Each judge leaves the image alone and is proved equal to the
+// model's (model/specs/Judge.antt). Their loops are one search for the first that meets a test (specs/Searches.antt); what a search comes to is
 // proved in proofs/Searches.antt.
 // P and S are handed in as p and s; `Within` keeps every reference in range.
+use kinds::Partition;
+use kinds::Refusal;
+use kinds::Single;
+use kinds::Verdict;
 ghost use Prim.Native.Nat.{_*_, _<_, _≤_};
 ghost use mathlib.Core.Path.{_≡_};
 ghost use mathlib.Core.Logic.{_≢_};
 ghost use Rattle.model.specs.Image.{placeOf};
-ghost use Rattle.model.specs.Acts.{opening, closing, trace, local};
+ghost use Rattle.kinds.specs.declared.Single.the-variants.{Open, Trace, Close, Local};
+ghost use Rattle.model.specs.Acts.{single};
 ghost use Rattle.model.specs.Judge.{judge, judgeOutlist, rooted, led};
 ghost use Rattle.loops.specs.Loop.{first};
 ghost use Rattle.image.specs.Within.{Within};
 ghost use Rattle.verdicts.specs.Searches.{astray, strays, meets, reach};
 
 // What the judges look for: a root in use, a partition that is not clean, and a root or a marked object that leads to an unmarked one.
-pub enum Sought {
+enum Sought {
     Rooted,
     Unclean,
     RootAstray,
@@ -33,7 +38,7 @@ fn astray(img: &[u32], p: usize, s: usize, w: u32) -> bool
         return false;
     }
     let j = image::place_of(w, s);
-    if img[image::FRONT + image::STRIDE * j] == 2 {
+    if image::state_at(img, j) == 2 {
         return false;
     }
     true
@@ -45,13 +50,12 @@ fn strays(img: &[u32], p: usize, s: usize, j: usize) -> bool
     requires { ⌜ j < p * s ⌝ }
     ensures { λ r. ⌜ r ≡ strays s (now (img .entry)) j ⌝ }
 {
-    let at = image::FRONT + image::STRIDE * j;
-    if img[at] != 2 {
+    if image::state_at(img, j) != 2 {
         return false;
     }
     let mut k: usize = 0;
     while k < FIELDS {
-        let w = img[at + 2 + k];
+        let w = image::field_at(img, j, k);
         let a = astray(img, p, s, w);
         if a {
             return true;
@@ -69,18 +73,18 @@ fn meets(img: &[u32], p: usize, s: usize, t: Sought, i: usize) -> bool
 {
     match t {
         Sought::Rooted => {
-            if img[image::ROOT + i] == 0 {
+            if image::root_at(img, i) == 0 {
                 return false;
             }
             true
         }
         Sought::Unclean => {
-            if img[image::FLAG + i] == 0 {
+            if image::flag_at(img, i) == 0 {
                 return true;
             }
             false
         }
-        Sought::RootAstray => astray(img, p, s, img[image::ROOT + i]),
+        Sought::RootAstray => astray(img, p, s, image::root_at(img, i)),
         Sought::SlotAstray => strays(img, p, s, i),
     }
 }
@@ -133,86 +137,99 @@ fn led(img: &[u32], p: usize, s: usize) -> bool
 }
 
 // Open: 11, 12.
-pub fn judge_open(img: &[u32], p: usize, s: usize) -> kinds::Verdict
+fn judge_open(img: &[u32], p: usize, s: usize) -> Verdict
     requires { ⌜ Within p s (now img) ⌝ }
-    ensures { λ r. ⌜ r ≡ judge p s (now (img .entry)) opening ⌝ }
+    ensures { λ r. ⌜ r ≡ judge p s (now (img .entry)) (single Open) ⌝ }
 {
-    if img[image::PHASE] == 1 {
-        return kinds::Verdict::refuse(kinds::Refusal::OPENED, 0);
+    if image::head_at(img, image::PHASE) == 1 {
+        return Verdict::refuse(Refusal::OPENED, 0);
     }
     let r = rooted(img, p, s);
     if !r {
-        return kinds::Verdict::refuse(kinds::Refusal::ROOTLESS, 0);
+        return Verdict::refuse(Refusal::ROOTLESS, 0);
     }
-    kinds::Verdict::Accepted
+    Verdict::Accepted
 }
 
 // Trace: 10, 7, 13, 15.
-pub fn judge_trace(img: &[u32], p: usize, s: usize, t: kinds::Partition) -> kinds::Verdict
+fn judge_trace(img: &[u32], p: usize, s: usize, t: Partition) -> Verdict
     requires { ⌜ Within p s (now img) ⌝ }
-    ensures { λ r. ⌜ r ≡ judge p s (now (img .entry)) (trace (t .0)) ⌝ }
+    ensures { λ r. ⌜ r ≡ judge p s (now (img .entry)) (single (Trace t)) ⌝ }
 {
-    let phase = img[image::PHASE];
+    let phase = image::head_at(img, image::PHASE);
     if phase != 1 {
-        return kinds::Verdict::refuse(kinds::Refusal::SHUT, 0);
+        return Verdict::refuse(Refusal::SHUT, 0);
     }
     let q = t.0 as usize;
     if p <= q {
-        return kinds::Verdict::refuse(kinds::Refusal::RANGE, 0);
+        return Verdict::refuse(Refusal::RANGE, 0);
     }
-    if img[image::FLAG + q] != 0 {
-        return kinds::Verdict::refuse(kinds::Refusal::CLEAN, 0);
+    if image::flag_at(img, q) != 0 {
+        return Verdict::refuse(Refusal::CLEAN, 0);
     }
-    if img[image::COUNT] == img[image::ALLOWANCE] {
-        return kinds::Verdict::refuse(kinds::Refusal::SPENT, 0);
+    if image::head_at(img, image::COUNT) == image::head_at(img, image::ALLOWANCE) {
+        return Verdict::refuse(Refusal::SPENT, 0);
     }
-    kinds::Verdict::Accepted
+    Verdict::Accepted
 }
 
 // Close: 10, 12, 14 with the lowest partition, 16.
-pub fn judge_close(img: &[u32], p: usize, s: usize) -> kinds::Verdict
+fn judge_close(img: &[u32], p: usize, s: usize) -> Verdict
     requires { ⌜ Within p s (now img) ⌝ }
-    ensures { λ r. ⌜ r ≡ judge p s (now (img .entry)) closing ⌝ }
+    ensures { λ r. ⌜ r ≡ judge p s (now (img .entry)) (single Close) ⌝ }
 {
-    if img[image::PHASE] != 1 {
-        return kinds::Verdict::refuse(kinds::Refusal::SHUT, 0);
+    if image::head_at(img, image::PHASE) != 1 {
+        return Verdict::refuse(Refusal::SHUT, 0);
     }
     let r = rooted(img, p, s);
     if !r {
-        return kinds::Verdict::refuse(kinds::Refusal::ROOTLESS, 0);
+        return Verdict::refuse(Refusal::ROOTLESS, 0);
     }
     let q = first(img, p, s, Sought::Unclean, p);
     if q < p {
-        return kinds::Verdict::refuse(kinds::Refusal::UNCLEAN, q);
+        return Verdict::refuse(Refusal::UNCLEAN, q);
     }
     let l = led(img, p, s);
     if !l {
-        return kinds::Verdict::refuse(kinds::Refusal::UNMARKED, 0);
+        return Verdict::refuse(Refusal::UNMARKED, 0);
     }
-    kinds::Verdict::Accepted
+    Verdict::Accepted
 }
 
 // A local collection of partition t: 7, 12.
-pub fn judge_local(img: &[u32], p: usize, s: usize, t: kinds::Partition) -> kinds::Verdict
+fn judge_local(img: &[u32], p: usize, s: usize, t: Partition) -> Verdict
     requires { ⌜ Within p s (now img) ⌝ }
-    ensures { λ r. ⌜ r ≡ judge p s (now (img .entry)) (local (t .0)) ⌝ }
+    ensures { λ r. ⌜ r ≡ judge p s (now (img .entry)) (single (Local t)) ⌝ }
 {
     if p <= t.0 as usize { // 7 before 12
-        return kinds::Verdict::refuse(kinds::Refusal::RANGE, 0);
+        return Verdict::refuse(Refusal::RANGE, 0);
     }
     let r = rooted(img, p, s);
     if !r {
-        return kinds::Verdict::refuse(kinds::Refusal::ROOTLESS, 0);
+        return Verdict::refuse(Refusal::ROOTLESS, 0);
     }
-    kinds::Verdict::Accepted
+    Verdict::Accepted
+}
+
+// The verdict on an act.
+pub fn judge(img: &[u32], p: usize, s: usize, a: Single) -> Verdict
+    requires { ⌜ Within p s (now img) ⌝ }
+    ensures { λ r. ⌜ r ≡ judge p s (now (img .entry)) (single a) ⌝ }
+{
+    match a {
+        Single::Open => judge_open(img, p, s),
+        Single::Trace(t) => judge_trace(img, p, s, t),
+        Single::Close => judge_close(img, p, s),
+        Single::Local(t) => judge_local(img, p, s, t),
+    }
 }
 
 // The outlist of partition t: 7.
-pub fn judge_outlist(p: usize, t: kinds::Partition) -> kinds::Verdict
+pub fn judge_outlist(p: usize, t: Partition) -> Verdict
     ensures { λ r. ⌜ r ≡ judgeOutlist p (t .0) ⌝ }
 {
     if p <= t.0 as usize {
-        return kinds::Verdict::refuse(kinds::Refusal::RANGE, 0);
+        return Verdict::refuse(Refusal::RANGE, 0);
     }
-    kinds::Verdict::Accepted
+    Verdict::Accepted
 }

@@ -1,17 +1,17 @@
--- `collector::each` meets its contract. Assumes nothing.
-use Rattle.collector.proofs.Sweeps.{within-step}
-use Rattle.collector.specs.Sweeps.{stepOf}
+-- `collector::each` meets its contract. Assumes nothing. After i turns the first i numbers are swept.
+use Rattle.collector.proofs.Bounds.{long-same}
+use Rattle.collector.specs.Sweeps.{swept}
 use Rattle.image.specs.Within.{Within}
 use Rattle.loops.proofs.Turns.{each-none, each-more, each-done}
 use Rattle.loops.specs.Loop.{each}
-use mathlib.Core.Path.{_≡_, sym, _∙_, subst}
+use mathlib.Core.Path.{_≡_, _∙_}
 use Prim.Native.Nat.{_≤_, _-_}
 use borrow.Author.Needs.{needs}
 use Rattle.collector.proofs.each.Statement.{statement}
 use Rattle.collector.proofs.each.Tie as tie
 
 abbrev Inv-loop : tie.InvT-loop
-Inv-loop img₀ p s what n i₀ img i = (i ≤ n) × Within p s img × (img ≡ each i (stepOf s what) img₀)
+Inv-loop img₀ p s what n i₀ img i = (i ≤ n) × Within p s img × (img ≡ each i (swept s what) img₀)
 
 abbrev μ-loop : tie.MeasureT-loop
 μ-loop img₀ p s what n i₀ img i = n - i
@@ -30,19 +30,15 @@ loop-less c = search needs
 
 loop-again : tie.Need-loop-again Inv-loop μ-loop
 loop-again c =
-    let a = c .before .before .before .before .before .before .before .args in
     let l = c .before .before .before .before .before .loop in
-    let k = c .before .before .step in (
-      search needs,
-      subst (Within (a .p) (a .s)) (sym (k .ensures)) (within-step (a .p) (a .s) (a .what) (l .img) (l .i) (l .inv .1) (c .before .before .before .before .before .before .before .pre .1 (l .i) (c .before .before .before .before .loop-test .taken))),
-      k .ensures ∙ each-more (stepOf (a .s) (a .what)) _ (l .i) (l .img) (l .inv .2),
-    )
+    let e = c .before .before .step .ensures in
+    (search needs, e .1, e .0 ∙ each-more _ _ (l .i) (l .img) (l .inv .2))
 
 same-length : tie.Need-same-length Inv-loop μ-loop
-same-length c = c .before .loop .inv .1 .long ∙ sym (c .before .before .before .pre .0 .long)
+same-length c = long-same (c .before .before .before .pre .0) (c .before .loop .inv .1)
 
 returns : tie.Need-returns Inv-loop μ-loop
-returns c = each-done _ _ _ _ _ (c .before .loop .inv .0) (c .loop-test .left) (c .before .loop .inv .2)
+returns c = let i = c .before .loop .inv in (each-done _ _ _ _ _ (i .0) (c .loop-test .left) (i .2), i .1)
 
 pub each-spec : {M : Type 1} → statement M
 each-spec =

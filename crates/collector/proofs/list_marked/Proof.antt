@@ -1,4 +1,4 @@
--- `collector::list_marked` meets its contract. Assumes nothing.
+-- `collector::list_marked` meets its contract. Assumes nothing. After k turns the first m of the list are the marked objects of the first k slots.
 use Prim.Native.Nat.{ℕ, _+_, _*_, _-_, _≤_, _<_}
 use mathlib.Core.Path.{_≡_, _∙_, subst}
 use mathlib.Core.Logic.{⊎-elim}
@@ -6,12 +6,11 @@ use native.Mathlib.Nat.{le-antisymm}
 use native.Mathlib.Omega.{arith}
 use lib.ListN.{length, length-set}
 use borrow.Author.Tests.{eq-eqb, ne-eqb}
-use Rattle.model.specs.Image.{get, addr}
 use Rattle.model.specs.Acts.{marked}
 use Rattle.model.specs.Walk.{Todo}
 use Rattle.model.proofs.Places.{slot-in}
 use Rattle.model.proofs.Walking.{todo-none, todo-most, todo-in, todo-out}
-use Rattle.image.proofs.Within.{places}
+use Rattle.image.proofs.Within.{places, has-word}
 use borrow.Author.Needs.{needs}
 use Rattle.collector.proofs.list_marked.Statement.{statement}
 use Rattle.collector.proofs.list_marked.Tie as tie
@@ -23,18 +22,18 @@ abbrev μ-loop : tie.MeasureT-loop
 μ-loop img p s t list₀ m₀ k₀ list m k = s - k
 
 loop-holds : tie.Need-loop-holds Inv-loop μ-loop
-loop-holds c = (search needs, c .pre .1 .1, todo-none marked _ 0 _ _ (omega arith) (λ j l. absurd (omega arith)))
+loop-holds c = (search needs, c .before .pre .1 .1, todo-none marked _ 0 _ _ (omega arith) (λ j l. absurd (omega arith)))
 
 -- the slot is one of the places
-place-in : (c : tie.In-loop Inv-loop μ-loop) → c .before .before .args .t * c .before .before .args .s + c .before .loop .k < c .before .before .args .p * c .before .before .args .s
-place-in c = slot-in (c .before .before .args .p) (c .before .before .args .s) (c .before .before .pre .0 .some-slot) (c .before .before .args .t) (c .before .loop .k) (c .before .before .pre .1 .0) (c .loop-test .taken)
+place-in : (c : tie.In-loop Inv-loop μ-loop) → c .before .before .before .args .t * c .before .before .before .args .s + c .before .loop .k < c .before .before .before .args .p * c .before .before .before .args .s
+place-in c = slot-in (c .before .before .before .args .p) (c .before .before .before .args .s) (c .before .before .before .pre .0 .limits .some-slot) (c .before .before .before .args .t) (c .before .loop .k) (c .before .before .before .pre .1 .0) (c .loop-test .taken)
 
-place-small : (c : tie.In-loop Inv-loop μ-loop) → c .before .before .args .t * c .before .before .args .s + c .before .loop .k < 1024
-place-small c = let h = c .before .before .pre .0 in omega (arith, place-in c, places h)
+place-small : (c : tie.In-loop Inv-loop μ-loop) → c .before .before .before .args .t * c .before .before .before .args .s + c .before .loop .k < 1024
+place-small c = let h = c .before .before .before .pre .0 in omega (arith, place-in c, places h)
 
 -- no more are listed than looked at
 few : (c : tie.In-loop Inv-loop μ-loop) → c .before .loop .m < 64
-few c = omega (arith, todo-most (c .before .loop .inv .2), c .loop-test .taken, c .before .before .pre .0 .wide)
+few c = omega (arith, todo-most (c .before .loop .inv .2), c .loop-test .taken, c .before .before .before .pre .0 .limits .slots-most)
 
 mul-j : tie.Need-mul-j Inv-loop μ-loop
 mul-j c = omega (arith, place-small c)
@@ -42,17 +41,8 @@ mul-j c = omega (arith, place-small c)
 add-j : tie.Need-add-j Inv-loop μ-loop
 add-j c = omega (arith, place-small c)
 
-mul-if1 : tie.Need-mul-if1 Inv-loop μ-loop
-mul-if1 c = omega (arith, place-small c)
-
-add-if1 : tie.Need-add-if1 Inv-loop μ-loop
-add-if1 c = omega (arith, place-small c)
-
-mul-if1-2 : tie.Need-mul-if1-2 Inv-loop μ-loop
-mul-if1-2 c = omega (arith, place-small c)
-
-shared-slice-read-if1 : tie.Need-shared-slice-read-if1 Inv-loop μ-loop
-shared-slice-read-if1 c = omega (arith, place-in (c .before), c .before .before .before .pre .0 .long)
+state-at-requires : tie.Need-state-at-requires Inv-loop μ-loop
+state-at-requires c κs = has-word _ _ _ (c .before .before .before .pre .0) _ (place-in c)
 
 cast-list : tie.Need-cast-list Inv-loop μ-loop
 cast-list c = omega (arith, place-small (c .before .before))
@@ -73,7 +63,6 @@ loop-less : tie.Need-loop-less Inv-loop μ-loop
 loop-less c = search needs
 
 loop-again : tie.Need-loop-again Inv-loop μ-loop
-unfolding get addr
 loop-again c =
     let l = c .before .before .before .loop in
     ⊎-elim
@@ -83,7 +72,7 @@ loop-again c =
 
 returns : tie.Need-returns Inv-loop μ-loop
 returns c =
-    let a = c .before .before .args in
+    let a = c .before .before .before .args in
     let l = c .before .loop in
     record { long = l .inv .1; todo = subst (λ (n : ℕ). Todo marked (λ i. a .t * a .s + i) n (a .img .now) (l .list) (l .m)) (le-antisymm (l .inv .0) (c .loop-test .left)) (l .inv .2) }
 
@@ -96,10 +85,7 @@ list-marked-spec =
     loop-holds
     mul-j
     add-j
-    mul-if1
-    add-if1
-    mul-if1-2
-    shared-slice-read-if1
+    state-at-requires
     cast-list
     mul-list
     element-write-list

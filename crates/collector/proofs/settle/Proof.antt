@@ -1,22 +1,18 @@
 -- `collector::settle` meets its contract. Assumes nothing.
+use Rattle.collector.proofs.Bounds.{with-put}
+use Rattle.model.specs.Image.{state}
 use Rattle.model.specs.Acts.{settle}
-use Rattle.model.specs.Image.{get, put, addr}
+use Rattle.image.proofs.Within.{has-word}
 use borrow.Author.Tests.{eq-eqb, ne-eqb}
 use borrow.Author.Needs.{needs}
 use Rattle.collector.proofs.settle.Statement.{statement}
 use Rattle.collector.proofs.settle.Tie as tie
 
-mul-x : tie.Need-mul-x
-mul-x c = search needs
+abbrev start : tie.Then2 → tie.Start
+start c = c .before .before .before .before .before
 
-add-x : tie.Need-add-x
-add-x c = search needs
-
-mul-x-2 : tie.Need-mul-x-2
-mul-x-2 c = search needs
-
-slice-read-x : tie.Need-slice-read-x
-slice-read-x c = search needs
+state-at-requires : tie.Need-state-at-requires
+state-at-requires c κs = has-word _ _ _ (c .before .before .pre .0) _ (c .before .before .pre .1)
 
 clear-requires : tie.Need-clear-requires
 clear-requires c κs = search needs
@@ -25,47 +21,39 @@ same-length : tie.Need-same-length
 same-length c = search needs
 
 returns : tie.Need-returns
-unfolding settle get addr
-returns c = rw (eq-eqb _ _ (c .before .before .before .before .if1 .taken)) (c .before .before .clear .ensures)
+unfolding settle
+returns c = (rw (← (c .before .before .before .before .before .state-at .ensures), eq-eqb _ _ (c .before .before .before .before .if1 .taken)) (c .before .before .clear .ensures .0), c .before .before .clear .ensures .1)
 
-mul-img : tie.Need-mul-img
-mul-img c = search needs
-
-add-img : tie.Need-add-img
-add-img c = search needs
-
-mul-img-2 : tie.Need-mul-img-2
-mul-img-2 c = search needs
-
-slice-write-img : tie.Need-slice-write-img
-slice-write-img c = search needs
+put-state-requires : tie.Need-put-state-requires
+put-state-requires c κs = has-word _ _ _ (start (c .before) .pre .0) _ (start (c .before) .pre .1)
 
 same-length-2 : tie.Need-same-length-2
 same-length-2 c = search needs
 
 returns-2 : tie.Need-returns-2
-unfolding settle get put addr
-returns-2 c = rw (ne-eqb _ _ (c .before .if1 .left), eq-eqb _ _ (c .if2 .taken))
+unfolding settle
+returns-2 c =
+    let d = c .before .before .before .before in
+    let e = c .before .before .put-state .ensures in
+    (rw (← (d .before .before .state-at .ensures), ne-eqb _ _ (d .before .if1 .left), eq-eqb _ _ (d .if2 .taken)) e, with-put (start d .pre .0) (state _) 1 tt e)
+
+same-length-3 : tie.Need-same-length-3
+same-length-3 c = search needs
 
 returns-3 : tie.Need-returns-3
-unfolding settle get put addr
-returns-3 c = rw (ne-eqb _ _ (c .before .if1 .left), ne-eqb _ _ (c .if2 .left))
+unfolding settle
+returns-3 c = (rw (← (c .before .before .state-at .ensures), ne-eqb _ _ (c .before .if1 .left), ne-eqb _ _ (c .if2 .left)), c .before .before .before .before .before .pre .0)
 
 pub settle-spec : {M : Type 1} → statement M
 settle-spec =
     tie.close
     (tie.spec
-    mul-x
-    add-x
-    mul-x-2
-    slice-read-x
+    state-at-requires
     clear-requires
     same-length
     returns
-    mul-img
-    add-img
-    mul-img-2
-    slice-write-img
+    put-state-requires
     same-length-2
     returns-2
+    same-length-3
     returns-3)

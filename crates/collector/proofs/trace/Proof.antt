@@ -1,66 +1,64 @@
--- `collector::trace` meets its contract. Assumes nothing.
-use mathlib.Core.Path.{_≡_, ap}
-use lib.ListN.{length-set, getD}
+-- `collector::trace` meets its contract. Assumes nothing. The marks leave the count of traces as it was, so that it can rise.
+use mathlib.Core.Path.{_≡_, ap, _∙_}
 use native.Mathlib.Omega.{arith}
-use Rattle.model.specs.Image.{get, put, addr}
+use Rattle.model.specs.Image.{Image, count, get}
 use Rattle.model.specs.Acts.{finish, traceOne}
+use Rattle.image.proofs.Within.{has-word}
+use Rattle.collector.proofs.Bounds.{has-after}
+use Rattle.collector.proofs.Sweeps.{finishes}
 use Rattle.collector.proofs.Walking.{marks-head}
 use borrow.Author.Needs.{needs}
 use Rattle.collector.proofs.trace.Statement.{statement}
 use Rattle.collector.proofs.trace.Tie as tie
 
--- the marks leave the count of traces as it was
-counted : (c : tie.After-walk) → getD (c .walk .last .0) 3 0 ≡ getD (c .before .before .before .before .args .img .now) 3 0
-unfolding get addr
-counted c = let a = c .before .before .before .before .args in rw (c .walk .ensures) (marks-head (a .p) (a .s) (a .t .0) (c .before .before .before .before .pre .1 .0) (a .img .now) (c .before .before .before .before .pre .0) 3 (omega arith))
+abbrev start : tie.After-walk → tie.Start
+start c = c .before .before .before .before
 
-cast-walk : tie.Need-cast-walk
-cast-walk c = search needs
+-- the marks leave the count of traces as it was
+counted : (c : tie.After-walk) → get (c .walk .last .0) count ≡ get (start c .args .img .now) count
+counted c = let a = start c in ap (λ (y : Image). get y count) (c .walk .ensures .0) ∙ marks-head _ _ _ (a .pre .1 .0) _ (a .pre .0) 3 (omega arith)
+
+abbrev marks : tie.After-put-flag → tie.After-walk
+marks c = c .before .before .before .before .before .before
+
+cast-q : tie.Need-cast-q
+cast-q c = search needs
 
 walk-requires : tie.Need-walk-requires
 walk-requires c κs = search needs
 
-slice-read-c : tie.Need-slice-read-c
-slice-read-c c = search needs
+head-at-requires : tie.Need-head-at-requires
+head-at-requires c κs = has-word _ _ _ (c .before .before .before .walk .ensures .1) count (omega arith)
 
-cast-img : tie.Need-cast-img
-cast-img c = search needs
+put-flag-requires : tie.Need-put-flag-requires
+put-flag-requires c κs = let d = c .before .before .before .before .before in has-word _ _ _ (d .walk .ensures .1) _ (omega (arith, start d .pre .1 .0, start d .pre .0 .limits .partitions-most))
 
-add-img : tie.Need-add-img
-add-img c = search needs
+add-put-head : tie.Need-add-put-head
+add-put-head c = let d = c .before .before .before in omega (arith, d .before .before .head-at .ensures, counted (marks d), start (marks d) .pre .1 .1)
 
-mul-img : tie.Need-mul-img
-mul-img c = search needs
-
-slice-write-img : tie.Need-slice-write-img
-slice-write-img c = search needs
-
-add-img-2 : tie.Need-add-img-2
-unfolding get addr
-add-img-2 c = omega (arith, counted (c .before .before .before .before), c .before .before .before .before .before .before .before .before .pre .1 .1)
-
-slice-write-img-2 : tie.Need-slice-write-img-2
-slice-write-img-2 c = simp length-set (omega (arith, c .before .before .before .before .walk .kept .0, c .before .before .before .before .before .before .before .before .pre .0 .long))
+put-head-requires : tie.Need-put-head-requires
+put-head-requires c κs = let d = c .before .before .before in has-after _ _ _ _ (d .put-flag .ensures) (has-word _ _ _ (marks d .walk .ensures .1) count (omega arith))
 
 same-length : tie.Need-same-length
 same-length c = search needs
 
 returns : tie.Need-returns
-unfolding traceOne finish get put addr
-returns c = ap (finish (c .before .before .before .before .before .before .before .before .args .t .0)) (c .before .before .before .before .walk .ensures)
+unfolding traceOne
+returns c =
+    let e = c .before .before in
+    let d = e .before .before .before .before in
+    let p = start (marks d) .args .t .0 in
+    finishes p _ (d .before .before .head-at .ensures) (d .put-flag .ensures) (e .put-head .ensures) ∙ ap (finish p) (marks d .walk .ensures .0)
 
 pub trace-spec : {M : Type 1} → statement M
 trace-spec =
     tie.close
     (tie.spec
-    cast-walk
+    cast-q
     walk-requires
-    slice-read-c
-    cast-img
-    add-img
-    mul-img
-    slice-write-img
-    add-img-2
-    slice-write-img-2
+    head-at-requires
+    put-flag-requires
+    add-put-head
+    put-head-requires
     same-length
     returns)

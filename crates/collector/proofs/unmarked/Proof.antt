@@ -1,9 +1,10 @@
--- `collector::unmarked` meets its contract. Assumes nothing.
+-- `collector::unmarked` meets its contract. Assumes nothing. After j turns c is the number of unmarked objects of the first j places.
 use Rattle.loops.specs.Loop.{tally, bit}
 use mathlib.Core.Bool.{Bool}
 use mathlib.Core.Logic.{⊎-elim}
 use Rattle.model.specs.Acts.{unmarked}
-use Rattle.model.specs.Image.{get, addr, state}
+use Rattle.model.specs.Image.{get, state}
+use Rattle.model.proofs.Keys.{has}
 use Rattle.loops.proofs.Loops.{tally-le}
 use Rattle.loops.proofs.Turns.{tally-none, tally-more, tally-done}
 use lib.Dec.{eqb}
@@ -24,21 +25,12 @@ abbrev μ-loop : tie.MeasureT-loop
 loop-holds : tie.Need-loop-holds Inv-loop μ-loop
 loop-holds c = (search needs, tally-none _)
 
-mul-if1 : tie.Need-mul-if1 Inv-loop μ-loop
-mul-if1 c = search needs
-
-add-if1 : tie.Need-add-if1 Inv-loop μ-loop
-add-if1 c = search needs
-
-mul-if1-2 : tie.Need-mul-if1-2 Inv-loop μ-loop
-mul-if1-2 c = search needs
-
-shared-slice-read-if1 : tie.Need-shared-slice-read-if1 Inv-loop μ-loop
-shared-slice-read-if1 c = search needs
+state-at-requires : tie.Need-state-at-requires Inv-loop μ-loop
+state-at-requires c κs = has _ _ (c .before .before .before .pre) (state (c .before .loop .j)) (c .loop-test .taken)
 
 add-c : tie.Need-add-c Inv-loop μ-loop
 add-c c =
-    omega (arith, tally-le (c .before .before .before .loop .j) (λ i. eqb (get (c .before .before .before .before .args .img .now) (state i)) 1))
+    omega (arith, tally-le (c .before .before .before .loop .j) (λ i. eqb (get (c .before .before .before .before .before .args .img .now) (state i)) 1))
 
 add-j : tie.Need-add-j Inv-loop μ-loop
 add-j c = search needs
@@ -47,13 +39,13 @@ loop-less : tie.Need-loop-less Inv-loop μ-loop
 loop-less c = search needs
 
 loop-again : tie.Need-loop-again Inv-loop μ-loop
-unfolding get addr
 loop-again c =
     let l = c .before .before .before .loop in
-    let f : ℕ → Bool = λ i. eqb (get (c .before .before .before .before .args .img .now) (state i)) 1 in (
+    let e = c .before .state-at .ensures in
+    let f : ℕ → Bool = λ i. eqb (get (c .before .before .before .before .before .args .img .now) (state i)) 1 in (
       search needs,
-      ⊎-elim (λ h. h .1 ∙ ap (λ (b : Bool). l .c + bit b) (sym (eq-eqb _ _ (h .0 .taken))) ∙ tally-more f (l .j) (l .c) (l .inv .1))
-          (λ h. let z : l .c ≡ l .c + 0 = omega arith in h .1 ∙ z ∙ ap (λ (b : Bool). l .c + bit b) (sym (ne-eqb _ _ (h .0 .left))) ∙ tally-more f (l .j) (l .c) (l .inv .1))
+      ⊎-elim (λ h. h .1 ∙ ap (λ (b : Bool). l .c + bit b) (sym (eq-eqb _ _ (sym e ∙ h .0 .taken))) ∙ tally-more f (l .j) (l .c) (l .inv .1))
+          (λ h. let z : l .c ≡ l .c + 0 = omega arith in h .1 ∙ z ∙ ap (λ (b : Bool). l .c + bit b) (sym (ne-eqb _ _ (λ q. h .0 .left (e ∙ q)))) ∙ tally-more f (l .j) (l .c) (l .inv .1))
           (c .if1 .came),
     )
 
@@ -68,10 +60,7 @@ unmarked-spec =
     Inv-loop
     μ-loop
     loop-holds
-    mul-if1
-    add-if1
-    mul-if1-2
-    shared-slice-read-if1
+    state-at-requires
     add-c
     add-j
     loop-less

@@ -1,8 +1,8 @@
--- `collector::walk` meets its contract. Assumes nothing.
+-- `collector::walk` meets its contract. Assumes nothing. Of the list's objects the first `at` are visited (`Walking`); it is never longer than a partition.
 use Prim.Native.Nat.{_-_, _<_}
-use mathlib.Core.Path.{sym, _∙_}
 use native.Mathlib.Omega.{arith}
 use Rattle.model.proofs.Walking.{todo-most}
+use Rattle.collector.proofs.Bounds.{long-same}
 use Rattle.collector.proofs.Walking.{Walking, walking-first, walking-within, next-in, walking-next, walking-end}
 use borrow.Author.Needs.{needs}
 use Rattle.collector.proofs.walk.Statement.{statement}
@@ -22,7 +22,7 @@ loop-holds c = walking-first (c .before .before .before .before .pre .0) (c .bef
 
 -- the list has no more than a partition's slots
 next-few : (c : tie.In-loop Inv-loop μ-loop) → c .before .loop .at < 64
-next-few c = omega (arith, c .loop-test .taken, todo-most (c .before .loop .inv .listed .todo), c .before .before .before .before .before .before .pre .0 .wide)
+next-few c = let g = c .before .loop .inv in omega (arith, c .loop-test .taken, todo-most (g .listed .todo), g .begun .limits .slots-most)
 
 mul-wide : tie.Need-mul-wide Inv-loop μ-loop
 mul-wide c = omega (arith, next-few c)
@@ -36,24 +36,28 @@ wide-requires c κs = search needs
 visit-requires : tie.Need-visit-requires Inv-loop μ-loop
 visit-requires c κs =
     let g = c .before .before .before .before .loop .inv in
-    (walking-within (c .before .before .before .before .before .before .before .before .before .pre .0) g, ((c .before .before .before .before .before .before .before .before .before .pre .1, next-in (c .before .before .before .before .before .before .before .before .before .pre .0) g (omega (arith, c .before .before .before .loop-test .taken)) _ (c .before .before .wide .ensures)), g .listed))
+    (walking-within g, ((g .inp, next-in g (omega (arith, c .before .before .before .loop-test .taken)) _ (c .before .before .wide .ensures)), g .listed))
+
+abbrev turn : tie.After-visit Inv-loop μ-loop → tie.In-loop Inv-loop μ-loop
+turn c = c .before .before .before .before
 
 add-at : tie.Need-add-at Inv-loop μ-loop
-add-at c = omega (arith, next-few (c .before .before .before .before .before .before))
+add-at c = omega (arith, next-few (turn (c .before .before)))
 
 loop-less : tie.Need-loop-less Inv-loop μ-loop
-loop-less c = omega (arith, next-few (c .before .before .before .before .before .before))
+loop-less c = omega (arith, next-few (turn (c .before .before)))
 
 loop-again : tie.Need-loop-again Inv-loop μ-loop
 loop-again c =
     let v = c .before .before .visit .ensures in
-    walking-next (c .before .before .before .before .before .before .before .before .before .before .before .before .pre .0) (c .before .before .before .before .before .before .before .loop .inv) (omega (arith, c .before .before .before .before .before .before .loop-test .taken)) _ (c .before .before .before .before .before .wide .ensures) (v .0) (v .1) (v .2) _ (omega arith)
+    let d = turn (c .before .before) in
+    walking-next (d .before .loop .inv) (omega (arith, d .loop-test .taken)) _ (c .before .before .before .before .before .wide .ensures) (v .0) (v .1) (v .2) _ (omega arith)
 
 same-length : tie.Need-same-length Inv-loop μ-loop
-same-length c = walking-within (c .before .before .before .before .before .before .pre .0) (c .before .loop .inv) .long ∙ sym (c .before .before .before .before .before .before .pre .0 .long)
+same-length c = let g = c .before .loop .inv in long-same (g .begun) (walking-within g)
 
 returns : tie.Need-returns Inv-loop μ-loop
-returns c = walking-end (c .before .before .before .before .before .before .pre .0) (c .before .loop .inv) (omega arith)
+returns c = let g = c .before .loop .inv in (walking-end g (omega arith), walking-within g)
 
 pub walk-spec : {M : Type 1} → statement M
 walk-spec =

@@ -21,7 +21,9 @@ same-length : tie.Need-same-length
 same-length c = search needs
 
 returns : tie.Need-returns
-returns c = let a = c .before .before .before .before .before .before .args in ap (λ (p : Put). put (p .said) (p .list ++ drop (a .n) (a .log .now))) (c .before .before .put-bytes .ensures)
+returns c = let p = c .before .before in
+    let a = p .before .before .before .before .args in
+    ap (λ (p : Put). put (p .said) (p .list ++ drop (a .n) (a .log .now))) (p .put-bytes .ensures)
 
 pub bytes-on-spec : {M : Type 1} → statement M
 bytes-on-spec =

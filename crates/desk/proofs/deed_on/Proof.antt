@@ -3,7 +3,7 @@ use mathlib.Core.Path.{sym, ap}
 use lib.ListN.{drop}
 use lib.Seq.{length-take-le}
 use Rattle.catalogue.specs.Call.{Outcome}
-use Rattle.desk.specs.declared.Said.{Said}
+use Rattle.desk.specs.declared.Response.{Response}
 use Rattle.desk.specs.Desk.{rejoined}
 use borrow.Author.Needs.{needs}
 use Rattle.desk.proofs.deed_on.Statement.{statement}
@@ -31,7 +31,9 @@ same-length-2 : tie.Need-same-length-2
 same-length-2 c = search needs
 
 returns : tie.Need-returns
-returns c = let a = c .before .before .before .before .before .before .before .before .before .args in ap (λ (o : Outcome Said). rejoined o (drop (a .d .words) (a .img .now)) (drop (a .d .bytes) (a .log .now))) (c .before .before .before .before .deed .ensures)
+returns c = let d = c .before .before .before .before in
+    let a = d .before .before .before .before .before .args in
+    ap (λ (o : Outcome Response). rejoined o (drop (a .d .words) (a .img .now)) (drop (a .d .bytes) (a .log .now))) (d .deed .ensures)
 
 pub deed-on-spec : {M : Type 1} → statement M
 deed-on-spec =

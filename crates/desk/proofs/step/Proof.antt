@@ -1,10 +1,14 @@
 -- `desk::step` meets its contract. Assumes nothing.
 use mathlib.Core.Path.{ap}
 use Rattle.catalogue.specs.Call.{outcome}
-use Rattle.desk.specs.Desk.{Put, Lending, turn, answered, afterDeed, stepOf}
+use Rattle.desk.specs.Desk.{Put, Lending, turn, answered, afterDeed, turnOf}
 use borrow.Author.Needs.{needs}
 use Rattle.desk.proofs.step.Statement.{statement}
 use Rattle.desk.proofs.step.Tie as tie
+
+-- the function's start, from where its arms part
+abbrev start : tie.After-slice-known2 → tie.Start
+start c = c .before .before .before
 
 enum-told : tie.Need-enum-told
 enum-told c = search needs
@@ -58,36 +62,44 @@ says-requires-4 : tie.Need-says-requires-4
 says-requires-4 c κs = search needs
 
 returns : tie.Need-returns
-unfolding stepOf
+unfolding turnOf
 returns c = rw (c .before .enum-told .given .1, c .says .ensures)
 
 returns-2 : tie.Need-returns-2
-unfolding stepOf
+unfolding turnOf
 returns-2 c = rw (c .before .enum-told2 .given .1, c .says2 .ensures)
 
 same-length : tie.Need-same-length
 same-length c = search needs
 
 returns-3 : tie.Need-returns-3
-unfolding stepOf
-returns-3 c = rw (c .before .before .before .before .before .o .given .1) (ap (λ (l : Lending). outcome (l .turn) (l .list) (c .before .before .before .before .before .before .before .before .before .before .args .log .now)) (c .before .before .lend-words .ensures))
+unfolding turnOf
+returns-3 c =
+    let o = c .before .before .before .before .before in
+    rw (o .o .given .1) (ap (λ (l : Lending). outcome (l .turn) (l .list) (start (o .before .before) .args .log .now)) (c .before .before .lend-words .ensures))
 
 same-length-2 : tie.Need-same-length-2
 same-length-2 c = search needs
 
 returns-4 : tie.Need-returns-4
-unfolding stepOf
-returns-4 c = rw (c .before .before .before .before .before .o2 .given .1) (ap (λ (l : Lending). outcome (l .turn) (c .before .before .before .before .before .before .before .before .before .before .args .img .now) (l .list)) (c .before .before .lend-bytes .ensures))
+unfolding turnOf
+returns-4 c =
+    let o = c .before .before .before .before .before in
+    rw (o .o2 .given .1) (ap (λ (l : Lending). outcome (l .turn) (start (o .before .before) .args .img .now) (l .list)) (c .before .before .lend-bytes .ensures))
 
 same-length-3 : tie.Need-same-length-3
 same-length-3 c = search needs
 
 returns-5 : tie.Need-returns-5
-unfolding stepOf
-returns-5 c = rw (c .before .before .before .before .before .before .o3 .given .1, c .says3 .ensures) (ap (λ (p : Put). outcome (turn (c .before .before .before .before .before .before .before .before .before .before .before .args .d) (p .said)) (c .before .before .before .before .before .before .before .before .before .before .before .args .img .now) (p .list)) (c .before .before .before .bytes-on .ensures))
+unfolding turnOf
+returns-5 c =
+    let b = c .before .before .before in
+    let o = b .before .before .before in
+    let a = start (o .before .before) .args in
+    rw (o .o3 .given .1, c .says3 .ensures) (ap (λ (p : Put). outcome (turn (a .d) (p .said)) (a .img .now) (p .list)) (b .bytes-on .ensures))
 
 returns-6 : tie.Need-returns-6
-unfolding stepOf
+unfolding turnOf
 returns-6 c = rw (c .before .enum-told3 .given .1, c .waiting .ensures)
 
 same-length-4 : tie.Need-same-length-4
@@ -97,8 +109,13 @@ same-length-5 : tie.Need-same-length-5
 same-length-5 c = search needs
 
 returns-7 : tie.Need-returns-7
-unfolding stepOf
-returns-7 c = rw (c .before .before .before .before .before .before .before .before .before .before .o4 .given .1, c .says4 .ensures, c .before .before .before .before .before .before .before .before .after .ensures) (ap (answered (turn (afterDeed (c .before .before .before .before .before .before .before .before .before .before .o4 .given .0 .0) (c .before .before .before .before .before .before .before .before .before .before .before .before .before .before .before .args .d)))) (c .before .before .before .before .before .deed-on .ensures))
+unfolding turnOf
+returns-7 c =
+    let x = c .before .before .before .before .before in
+    let e = x .before .before .before in
+    let o = e .before .before in
+    rw (o .o4 .given .1, c .says4 .ensures, e .after .ensures)
+    (ap (answered (turn (afterDeed (o .o4 .given .0 .0) (start (o .before .before) .args .d)))) (x .deed-on .ensures))
 
 pub step-spec : {M : Type 1} → statement M
 step-spec =

@@ -22,7 +22,8 @@ same-length-2 : tie.Need-same-length-2
 same-length-2 c = search needs
 
 returns : tie.Need-returns
-returns c = seen-of saidClosing _ _ _ _ _ (c .before .before .before .before .before .before .before .before .before .before .close .ensures) (totals-told _ _ _ _ _ _ (c .tell .ensures) ∙ ap saidClosing (sym (c .before .before .before .before .n .given .1)))
+returns c = let n = c .before .before .before .before in let m = n .before .before in
+    seen-of saidClosing _ _ _ _ _ (m .before .before .before .before .close .ensures) (totals-told _ _ _ _ _ _ (c .tell .ensures) ∙ ap saidClosing (sym (n .n .given .1)))
 
 enum-known-r : tie.Need-enum-known-r
 enum-known-r c = search needs
@@ -37,7 +38,8 @@ same-length-4 : tie.Need-same-length-4
 same-length-4 c = search needs
 
 returns-2 : tie.Need-returns-2
-returns-2 c = seen-of saidClosing _ _ _ _ _ (c .before .before .before .before .before .before .before .before .before .before .close .ensures) (totals-told _ _ _ _ _ _ (c .tell2 .ensures) ∙ ap saidClosing (sym (c .before .before .before .before .r .given .1)))
+returns-2 c = let r = c .before .before .before .before in let m = r .before .before in
+    seen-of saidClosing _ _ _ _ _ (m .before .before .before .before .close .ensures) (totals-told _ _ _ _ _ _ (c .tell2 .ensures) ∙ ap saidClosing (sym (r .r .given .1)))
 
 pub heidrunok-close-spec : {M : Type 1} → statement M
 heidrunok-close-spec =

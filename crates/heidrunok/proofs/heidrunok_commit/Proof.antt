@@ -46,7 +46,12 @@ loop-less : tie.Need-loop-less Inv-loop μ-loop
 loop-less c = search needs
 
 loop-again : tie.Need-loop-again Inv-loop μ-loop
-loop-again c = (simp length-set (search needs), search needs, taken-more (c .before .before .before .before .before .before .before .args .words .now) (c .before .before .before .loop .ops) (c .before .before .before .loop .i) _ _ (search needs) (search needs) (c .before .before .before .loop .inv .2) (c .operation .ensures))
+loop-again c =
+    let t = c .before .before .before in (
+      simp length-set (search needs),
+      search needs,
+      taken-more (t .before .before .before .before .args .words .now) (t .loop .ops) (t .loop .i) _ _ (search needs) (search needs) (t .loop .inv .2) (c .operation .ensures),
+    )
 
 commit-requires : tie.Need-commit-requires Inv-loop μ-loop
 commit-requires c κs = search needs
@@ -61,7 +66,11 @@ same-length-2 : tie.Need-same-length-2 Inv-loop μ-loop
 same-length-2 c = search needs
 
 returns : tie.Need-returns Inv-loop μ-loop
-returns c = seen-of said _ _ _ _ _ (c .before .before .before .before .before .before .before .commit .ensures ∙ commit-looked _ _ _ (c .before .before .before .before .before .before .before .before .before .before .before .before .before .before .before .args .words .now) _ _ _ (c .before .before .before .before .before .before .before .before .before .before .before .before .looked-at .ensures) (c .before .before .before .before .before .before .before .before .before .before .before .loop .inv .1) (c .before .before .before .before .before .before .before .before .before .before .loop-test .left) (c .before .before .before .before .before .before .before .before .before .before .before .loop .inv .2)) (c .tell .ensures)
+returns c =
+    let m = c .before .before .before .before .before .before .before in
+    let l = m .before .before .before .before in
+    let looked = commit-looked _ _ _ (l .before .before .before .before .args .words .now) _ _ _ (l .before .looked-at .ensures) (l .loop .inv .1) (m .before .before .before .loop-test .left) (l .loop .inv .2) in
+    seen-of said _ _ _ _ _ (m .commit .ensures ∙ looked) (c .tell .ensures)
 
 pub heidrunok-commit-spec : {M : Type 1} → statement M
 heidrunok-commit-spec =

@@ -26,19 +26,25 @@ element-copy-out-word-3 : tie.Need-element-copy-out-word-3
 element-copy-out-word-3 c = search needs
 
 word-requires-3 : tie.Need-word-requires-3
-word-requires-3 c κs = field-named _ _ _ _ (c .before .before .before .before .before .before .read .ensures)
+word-requires-3 c κs = let w = c .before .before .before .before in field-named _ _ _ _ (w .before .before .read .ensures)
 
 element-copy-out-word-4 : tie.Need-element-copy-out-word-4
 element-copy-out-word-4 c = search needs
 
 word-requires-4 : tie.Need-word-requires-4
-word-requires-4 c κs = field-named _ _ _ _ (c .before .before .before .before .before .before .before .before .read .ensures)
+word-requires-4 c κs = let w = c .before .before .before .before in field-named _ _ _ _ (w .before .before .before .before .read .ensures)
 
 number-requires : tie.Need-number-requires
 number-requires c κs = search needs
 
 returns : tie.Need-returns
-returns c = read-told _ _ _ _ _ _ _ _ _ (c .before .before .before .before .before .before .before .before .before .before .before .read .ensures) (c .before .before .before .before .before .before .before .before .before .before .before .before .name .ensures) (c .number .ensures) (c .before .before .before .before .before .before .before .before .word .ensures) (c .before .before .before .before .before .before .word2 .ensures) (c .before .before .before .before .word3 .ensures) (c .before .before .word4 .ensures)
+returns c =
+    let w4 = c .before .before in
+    let w3 = w4 .before .before in
+    let w2 = w3 .before .before in
+    let w1 = w2 .before .before in
+    let r = w1 .before .before .before in
+    read-told _ _ _ _ _ _ _ _ _ (r .read .ensures) (r .before .name .ensures) (c .number .ensures) (w1 .word .ensures) (w2 .word2 .ensures) (w3 .word3 .ensures) (w4 .word4 .ensures)
 
 pub heidrunok-read-spec : {M : Type 1} → statement M
 heidrunok-read-spec =

@@ -1,20 +1,30 @@
 -- `image::mark_word` meets its contract. Assumes nothing.
-use Prim.Native.Nat.{_<_}
-use lib.ListN.{length, length-set}
-use mathlib.Core.Path.{_≡_, sym, ap, _∙_}
-use native.Mathlib.Omega.{arith}
+-- What is read and put goes by keys; an unmarked object gets its mark (`marks`).
+use Prim.Native.Nat.{ℕ, _*_, _<_}
+use mathlib.Core.Path.{_≡_, sym, ap, subst, _∙_}
+use mathlib.Core.Logic.{_≢_}
 use borrow.Author.Tests.{eq-eqb, ne-eqb}
-use Rattle.kinds.specs.Names.{mostPartitions}
-use Rattle.model.specs.Image.{state, addr, get, put, partOf}
+use Rattle.model.specs.Image.{Image, state, flag, get, put, placeOf, partOf}
 use Rattle.model.specs.Acts.{mark, markWord}
-use Rattle.image.proofs.Within.{mark-ready}
+use Rattle.model.proofs.Keys.{has-put}
+use Rattle.image.proofs.Within.{has-word, flag-in}
 use borrow.Author.Needs.{needs}
 use Rattle.image.proofs.mark_word.Statement.{statement}
 use Rattle.image.proofs.mark_word.Tie as tie
 
--- the object's state and its partition's flag are words of the image
-ready : (c : tie.After-place-of) → let j = c .place-of .result in (0 < c .before .before .before .args .s) × (partOf (c .before .before .before .args .s) j < mostPartitions) × (addr (state j) < length (c .before .before .before .args .img .now))
-ready c = mark-ready _ _ _ (c .before .before .before .pre .0) _ (rw (c .place-of .ensures) (c .before .before .before .pre .1 (c .before .if1 .left)))
+-- where it begins, and that the place is one of the image's
+abbrev start : tie.After-place-of → tie.Start
+start c = c .before .before .before
+
+placed : (c : tie.After-place-of) → c .place-of .result < start c .args .p * start c .args .s
+placed c = subst (λ (v : ℕ). v < start c .args .p * start c .args .s) (sym (c .place-of .ensures)) (start c .pre .1 (c .before .if1 .left))
+
+-- the flag is that of the object's partition
+abbrev named : tie.After-part-of → tie.After-place-of
+named c = c .before .before .before .before
+
+part-is : (c : tie.After-part-of) → c .part-of .result ≡ partOf (start (named c) .args .s) (named c .place-of .result)
+part-is c = c .part-of .ensures ∙ ap (partOf (start (named c) .args .s)) (sym (named c .place-of .ensures))
 
 returns : tie.Need-returns
 unfolding markWord
@@ -23,57 +33,47 @@ returns c = rw (c .if1 .taken)
 place-of-requires : tie.Need-place-of-requires
 place-of-requires c κs = search needs
 
-mul-at : tie.Need-mul-at
-unfolding addr
-mul-at c = omega (arith, ready c)
-
-add-at : tie.Need-add-at
-unfolding addr
-add-at c = omega (arith, ready c)
-
-mul-if2 : tie.Need-mul-if2
-unfolding addr
-mul-if2 c = omega (arith, ready c)
-
-slice-read-if2 : tie.Need-slice-read-if2
-unfolding addr
-slice-read-if2 c = omega (arith, ready (c .before))
-
-returns-2 : tie.Need-returns-2
-unfolding markWord mark get addr
-returns-2 c = rw (ne-eqb _ _ (c .before .before .before .if1 .left), ← c .before .before .place-of .ensures, ne-eqb _ _ (c .if2 .taken))
-
-part-of-requires : tie.Need-part-of-requires
-part-of-requires c κs = search needs
-
--- the flag is that of the object's partition
-part-is : (c : tie.After-part-of) → c .part-of .result ≡ partOf (c .before .before .before .before .before .before .args .s) (c .before .before .before .place-of .result)
-part-is c = c .part-of .ensures ∙ ap (partOf (c .before .before .before .before .before .before .args .s)) (sym (c .before .before .before .place-of .ensures))
-
-add-img : tie.Need-add-img
-add-img c = omega (arith, part-is c, ready (c .before .before .before))
-
-mul-img : tie.Need-mul-img
-mul-img c = omega (arith, part-is c, ready (c .before .before .before))
-
-slice-write-img : tie.Need-slice-write-img
-unfolding addr
-slice-write-img c = omega (arith, part-is c, ready (c .before .before .before))
-
-mul-img-2 : tie.Need-mul-img-2
-unfolding addr
-mul-img-2 c = omega (arith, ready (c .before .before .before))
-
-slice-write-img-2 : tie.Need-slice-write-img-2
-unfolding addr
-slice-write-img-2 c = simp length-set (omega (arith, ready (c .before .before .before)))
+state-at-requires : tie.Need-state-at-requires
+state-at-requires c κs = has-word _ _ _ (start (c .before) .pre .0) (state (c .before .place-of .result)) (placed (c .before))
 
 same-length : tie.Need-same-length
 same-length c = search needs
 
+returns-2 : tie.Need-returns-2
+unfolding markWord mark
+returns-2 c =
+    let at = c .before .before .before in
+    rw (ne-eqb _ _ (at .before .if1 .left), ← at .place-of .ensures, ← c .before .state-at .ensures, ne-eqb _ _ (c .if2 .taken))
+
+part-of-requires : tie.Need-part-of-requires
+part-of-requires c κs = search needs
+
+put-flag-requires : tie.Need-put-flag-requires
+put-flag-requires c κs =
+    let h = start (named (c .before)) .pre .0 in
+    has-word _ _ _ h (flag (c .before .part-of .result)) (rw (part-is (c .before)) (flag-in _ _ _ h _ (placed (named (c .before)))))
+
+put-state-requires : tie.Need-put-state-requires
+put-state-requires c κs =
+    let at = named (c .before .before .before .before .before) in
+    rw (c .before .before .before .put-flag .ensures) (has-put _ _ _ _ (has-word _ _ _ (start at .pre .0) (state (at .place-of .result)) (placed at)))
+
+same-length-2 : tie.Need-same-length-2
+same-length-2 c = search needs
+
+-- an unmarked object gets its mark
+marks : (S w j q : ℕ) (x : Image) → w ≢ 0 → j ≡ placeOf S w → q ≡ partOf S j → get x (state j) ≡ 1 → put (put x (flag q) 0) (state j) 2 ≡ markWord S x w
+unfolding markWord mark
+marks S w j q x some at part one = rw (part, ne-eqb w 0 some, ← at, eq-eqb _ _ one)
+
 returns-3 : tie.Need-returns-3
-unfolding markWord mark get put addr
-returns-3 c = rw (ne-eqb _ _ (c .before .before .before .before .if1 .left), ← c .before .before .before .place-of .ensures, eq-eqb _ _ (c .before .if2 .left), part-is c)
+returns-3 c =
+    let flagged = c .before .before .before .before .before .before in
+    let parted = flagged .before .before in
+    let at = named parted in
+    let tested = parted .before .before in
+    c .before .before .put-state .ensures ∙ ap (λ (z : Image). put z (state (at .place-of .result)) 2) (flagged .put-flag .ensures)
+    ∙ marks _ _ _ _ _ (at .before .if1 .left) (at .place-of .ensures) (part-is parted) (sym (tested .state-at .ensures) ∙ parted .before .if2 .left)
 
 pub mark-word-spec : {M : Type 1} → statement M
 mark-word-spec =
@@ -81,16 +81,11 @@ mark-word-spec =
     (tie.spec
     returns
     place-of-requires
-    mul-at
-    add-at
-    mul-if2
-    slice-read-if2
+    state-at-requires
+    same-length
     returns-2
     part-of-requires
-    add-img
-    mul-img
-    slice-write-img
-    mul-img-2
-    slice-write-img-2
-    same-length
+    put-flag-requires
+    put-state-requires
+    same-length-2
     returns-3)

@@ -32,17 +32,21 @@ returns c = rw (c .outcome .ensures) (c .before .before .loop .inv .1)
 read-more-requires : tie.Need-read-more-requires Inv-loop μ-loop
 read-more-requires c κs = search needs
 
+-- where a turn has found its bytes, from the turn's end
+abbrev found : tie.After-slice-known2 Inv-loop μ-loop → tie.After-got Inv-loop μ-loop
+found c = c .before .before .before .before .before
+
 loop-less : tie.Need-loop-less Inv-loop μ-loop
 loop-less c =
-    let t = c .before .before .before .before .before .before .before .loop in
-    let g = c .before .before .before .before .before .got .given in
+    let t = found c .before .before .loop in
+    let g = found c .got .given in
     let r = c .before .before .read-more in
     turn-less (t .got) (g .0 .0) (g .1) (t .buf) (r .last .1 .0) (r .kept .1 .0) (r .result) (r .ensures)
 
 loop-again : tie.Need-loop-again Inv-loop μ-loop
 loop-again c =
-    let t = c .before .before .before .before .before .before .before .loop in
-    let g = c .before .before .before .before .before .got .given in
+    let t = found c .before .before .loop in
+    let g = found c .got .given in
     let r = c .before .before .read-more in
     (r .kept .1 .0 ∙ t .inv .0, turn-filled (t .got) (g .0 .0) (g .1) (t .buf) (r .last .1 .0) (r .kept .1 .0) (r .result) (r .ensures) (t .inv .1))
 

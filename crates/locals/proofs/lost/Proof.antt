@@ -1,4 +1,4 @@
--- `locals::lost` meets its contract. Assumes nothing.
+-- `locals::lost` meets its contract. Assumes nothing. After k turns c is the number of the first k slots that are lost, so at most k.
 use Rattle.loops.proofs.Turns.{tally-none, tally-more, tally-done}
 use Rattle.loops.proofs.Tests.{bit-le}
 use Rattle.loops.specs.Loop.{tally}
@@ -20,10 +20,14 @@ loop-holds : tie.Need-loop-holds Inv-loop μ-loop
 loop-holds c = (search needs, tally-none _, omega arith)
 
 lost-at-requires : tie.Need-lost-at-requires Inv-loop μ-loop
-lost-at-requires c κs = (c .before .before .before .pre .0, (c .before .before .before .pre .1, c .loop-test .taken))
+lost-at-requires c κs = record { within = c .before .before .before .pre .0; part = c .before .before .before .pre .1; slot = c .loop-test .taken }
+
+-- one slot counts 0 or 1
+one : (c : tie.After-lost-at Inv-loop μ-loop) → c .lost-at .result ≤ 1
+one c = let a = c .before .before .before .before .args in omega (arith, c .lost-at .ensures, bit-le (lostAt (a .s) (a .t) (a .img .now) (a .marks .now) (c .before .before .loop .k)))
 
 add-c : tie.Need-add-c Inv-loop μ-loop
-add-c c = omega (arith, c .lost-at .ensures, bit-le (lostAt (c .before .before .before .before .args .s) (c .before .before .before .before .args .t) (c .before .before .before .before .args .img .now) (c .before .before .before .before .args .marks .now) (c .before .before .loop .k)), c .before .before .loop .inv .2)
+add-c c = omega (arith, one c, c .before .before .loop .inv .2)
 
 add-k : tie.Need-add-k Inv-loop μ-loop
 add-k c = search needs
@@ -32,7 +36,11 @@ loop-less : tie.Need-loop-less Inv-loop μ-loop
 loop-less c = search needs
 
 loop-again : tie.Need-loop-again Inv-loop μ-loop
-loop-again c = (omega (arith, c .before .loop-test .taken), ap (λ (v : ℕ). c .before .before .loop .c + v) (c .lost-at .ensures) ∙ tally-more _ _ _ (c .before .before .loop .inv .1), omega (arith, c .lost-at .ensures, bit-le (lostAt (c .before .before .before .before .args .s) (c .before .before .before .before .args .t) (c .before .before .before .before .args .img .now) (c .before .before .before .before .args .marks .now) (c .before .before .loop .k)), c .before .before .loop .inv .2))
+loop-again c = (
+  omega (arith, c .before .loop-test .taken),
+  ap (λ (v : ℕ). c .before .before .loop .c + v) (c .lost-at .ensures) ∙ tally-more _ _ _ (c .before .before .loop .inv .1),
+  omega (arith, one c, c .before .before .loop .inv .2),
+)
 
 returns : tie.Need-returns Inv-loop μ-loop
 returns c = tally-done _ _ _ _ (c .before .loop .inv .0) (c .loop-test .left) (c .before .loop .inv .1)

@@ -1,4 +1,4 @@
--- `locals::mark_outs` meets its contract. Assumes nothing.
+-- `locals::mark_outs` meets its contract. Assumes nothing. After f turns what the first f fields name outside t is marked.
 use Rattle.model.specs.Outlist.{mostPlaces, outOne, outBits}
 use Rattle.model.specs.Questions.{collect}
 use Rattle.loops.proofs.Turns.{each-none, each-more, each-done}
@@ -17,16 +17,18 @@ abbrev μ-loop : tie.MeasureT-loop
 μ-loop img p s t bits₀ n f₀ bits f = 4 * s - f
 
 mul-n : tie.Need-mul-n Inv-loop μ-loop
-mul-n c = omega (arith, c .before .pre .0 .wide)
+mul-n c = omega (arith, c .before .pre .0 .limits .slots-most)
 
 loop-holds : tie.Need-loop-holds Inv-loop μ-loop
 loop-holds c = (omega arith, c .before .pre .1 .1 ∙ each-none _ _, rw (c .before .pre .1 .1) (length-replicate {A = ℕ} 1024 0))
 
 mark-out-requires : tie.Need-mark-out-requires Inv-loop μ-loop
-mark-out-requires c κs = (c .before .before .before .before .pre .0, (c .before .before .before .before .pre .1 .0, c .before .loop-test .taken, c .before .before .loop .inv .2))
+mark-out-requires c κs =
+    let h = c .before .before .before .before .pre in
+    record { place = record { within = h .0; part = h .1 .0; slot = omega (arith, c .before .loop-test .taken) }; wide = c .before .before .loop .inv .2 }
 
 add-f : tie.Need-add-f Inv-loop μ-loop
-add-f c = omega (arith, c .before .before .loop-test .taken, c .before .before .before .before .before .pre .0 .wide)
+add-f c = omega (arith, c .before .before .loop-test .taken, c .before .before .before .before .before .pre .0 .limits .slots-most)
 
 loop-less : tie.Need-loop-less Inv-loop μ-loop
 loop-less c = omega (arith, c .before .before .loop-test .taken)

@@ -1,4 +1,4 @@
--- `locals::note_counted` meets its contract. Assumes nothing.
+-- `locals::note_counted` meets its contract. Assumes nothing. After k turns the objects of the first k slots are noted that foreign fields name.
 use Rattle.todo.proofs.Noting.{more-none, more-then}
 use Rattle.todo.specs.Notes.{More}
 use Rattle.locals.specs.Slots.{namedOne}
@@ -20,7 +20,9 @@ loop-holds : tie.Need-loop-holds Inv-loop μ-loop
 loop-holds c = (search needs, each-none _ _, more-none (c .before .pre .1 .1))
 
 note-named-requires : tie.Need-note-named-requires Inv-loop μ-loop
-note-named-requires c κs = (c .before .before .before .before .before .pre .0, ((c .before .before .before .before .before .pre .1 .0, c .before .before .loop-test .taken), c .before .before .before .loop .inv .2 .noted))
+note-named-requires c κs =
+    let h = c .before .before .before .before .before .pre in
+    (record { within = h .0; part = h .1 .0; slot = c .before .before .loop-test .taken }, c .before .before .before .loop .inv .2 .noted)
 
 add-k : tie.Need-add-k Inv-loop μ-loop
 add-k c = search needs

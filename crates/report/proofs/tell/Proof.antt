@@ -20,7 +20,10 @@ enum-known-k : tie.Need-enum-known-k
 enum-known-k c = search needs
 
 array-share-prefix-text : tie.Need-array-share-prefix-text
-array-share-prefix-text c = omega (arith, done-fits _ _ _ _ (c .before .k .given .0 .0) (c .before .before .before .before .report .ensures) (c .before .k .given .1), c .before .before .before .before .report .kept .1 .0, c .before .before .before .before .before .before .text-space .ensures)
+array-share-prefix-text c =
+    let k = c .before in
+    let r = k .before .before .before in
+    omega (arith, done-fits _ _ _ _ (k .k .given .0 .0) (r .report .ensures) (k .k .given .1), r .report .kept .1 .0, r .before .before .text-space .ensures)
 
 slice-aggregate-write-all : tie.Need-slice-aggregate-write-all
 slice-aggregate-write-all c = sym (length-take-le (c .before .before .k .given .0 .0) _ (array-share-prefix-text (c .before)))

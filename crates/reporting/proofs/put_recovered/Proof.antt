@@ -1,9 +1,17 @@
 -- `reporting::put_recovered` meets its contract. Assumes nothing.
-use Rattle.reporting.proofs.Reporting.{kept-small, line-small, kept-shown, refused-shown}
+use Rattle.lines.proofs.Printed.{bytes-of}
+use Rattle.reporting.proofs.Reporting.{kept-small, kept-some, line-small, kept-shown, refused-shown}
+use Rattle.lines.specs.Print.{Bytes}
+use Rattle.model.proofs.Keys.{sized-length}
+use Rattle.model.specs.Image.{lengthOf}
+use mathlib.Core.Path.{_∙_}
 use native.Mathlib.Omega.{arith}
 use borrow.Author.Needs.{needs}
 use Rattle.reporting.proofs.put_recovered.Statement.{statement}
 use Rattle.reporting.proofs.put_recovered.Tie as tie
+
+log-bytes : (c : tie.After-recover) → Bytes (c .before .before .before .before .before .args .log .now)
+log-bytes c = bytes-of (c .before .before .before .before .before .args .log .now) (λ i. omega (arith, c .before .before .shared-slice-known .given i))
 
 recover-requires : tie.Need-recover-requires
 recover-requires c κs = search needs
@@ -12,18 +20,31 @@ enum-known-k : tie.Need-enum-known-k
 enum-known-k c = search needs
 
 cast-put-kept : tie.Need-cast-put-kept
-cast-put-kept c = let h = kept-small _ _ _ _ (c .before .before .before .before .before .before .before .recover .ensures) (c .before .before .before .k .given .0 .0) (c .before .before .before .k .given .1) in omega (arith, h .1)
+cast-put-kept c =
+    let k = c .before .before .before in
+    let r = k .before .before .before .before in
+    omega (arith, kept-small _ _ _ _ (r .recover .ensures) (log-bytes r) (k .k .given .1))
 
 put-kept-requires : tie.Need-put-kept-requires
+unfolding lengthOf
 put-kept-requires c κs =
-    let h = kept-small _ _ _ _ (c .before .before .before .before .before .before .before .recover .ensures) _ (c .before .before .before .k .given .1) in
-    (omega arith, omega arith, omega (arith, h .0, c .before .before .before .before .before .before .before .before .before .before .before .before .pre .0 .2 (omega (arith, h .0)), c .before .before .before .before .before .before .before .recover .kept .0), omega arith)
+    let k = c .before .before .before in
+    let r = k .before .before .before .before in
+    let b = r .before .before .before .before .before in (
+      omega arith,
+      omega arith,
+      sized-length _ _ _ (r .recover .kept .0 ∙ b .pre .0 .2 (kept-some _ _ _ _ (r .recover .ensures) (log-bytes r) (k .k .given .1))),
+      omega arith,
+    )
 
 enum-known-r : tie.Need-enum-known-r
 enum-known-r c = search needs
 
 cast-put-refused : tie.Need-cast-put-refused
-cast-put-refused c = let h = line-small _ _ _ _ (c .before .before .before .before .before .before .before .recover .ensures) (c .before .before .before .r .given .0 .0) (c .before .before .before .r .given .1) in omega (arith, h)
+cast-put-refused c =
+    let f = c .before .before .before in
+    let r = f .before .before .before .before in
+    omega (arith, line-small _ _ _ _ (r .recover .ensures) (log-bytes r) (f .r .given .1))
 
 put-refused-requires : tie.Need-put-refused-requires
 put-refused-requires c κs = search needs
@@ -35,7 +56,10 @@ same-length-2 : tie.Need-same-length-2
 same-length-2 c = search needs
 
 returns : tie.Need-returns
-returns c = rw (← kept-shown _ _ _ _ (c .before .before .before .before .before .before .before .before .before .before .recover .ensures) _ _ _ (c .before .before .before .before .before .before .k .given .1)) (c .before .before .put-kept .ensures)
+returns c =
+    let p = c .before .before in
+    let k = p .before .before .before .before in
+    rw (← kept-shown _ _ _ _ (k .before .before .before .before .recover .ensures) _ _ _ (k .k .given .1)) (p .put-kept .ensures)
 
 same-length-3 : tie.Need-same-length-3
 same-length-3 c = search needs
@@ -44,7 +68,10 @@ same-length-4 : tie.Need-same-length-4
 same-length-4 c = search needs
 
 returns-2 : tie.Need-returns-2
-returns-2 c = rw (← refused-shown _ _ _ _ (c .before .before .before .before .before .before .before .before .before .before .recover .ensures) _ _ _ (c .before .before .before .before .before .before .r .given .1)) (c .before .before .put-refused .ensures)
+returns-2 c =
+    let p = c .before .before in
+    let f = p .before .before .before .before in
+    rw (← refused-shown _ _ _ _ (f .before .before .before .before .recover .ensures) _ _ _ (f .r .given .1)) (p .put-refused .ensures)
 
 pub put-recovered-spec : {M : Type 1} → statement M
 put-recovered-spec =

@@ -22,19 +22,32 @@ image-requires : tie.Need-image-requires
 image-requires c κs = search needs
 
 array-borrow-prefix-img : tie.Need-array-borrow-prefix-img
-array-borrow-prefix-img c = words-fit (c .before .before .before .before .before .before .args .log .now) (c .before .before .asked-of .result) (c .before .before .asked-of .ensures) (c .before .image .result) (c .before .image .ensures)
+array-borrow-prefix-img c =
+    let i = c .before in
+    let q = i .before in
+    words-fit (q .before .before .before .before .args .log .now) (q .asked-of .ensures) (i .image .result) (i .image .ensures)
 
 slice-aggregate-put-recovered : tie.Need-slice-aggregate-put-recovered
-slice-aggregate-put-recovered c = sym (words-lent (c .before .before .before .before .before .before .before .args .log .now) (c .before .before .before .asked-of .result) (c .before .before .before .asked-of .ensures) (c .before .before .image .result) (c .before .before .image .ensures))
+slice-aggregate-put-recovered c =
+    let i = c .before .before in
+    let q = i .before in
+    sym (words-lent (q .before .before .before .before .args .log .now) (q .asked-of .ensures) (i .image .result) (i .image .ensures))
 
 put-recovered-requires : tie.Need-put-recovered-requires
-put-recovered-requires c κs = (lent-whole (c .before .before .before .before .before .before .before .args .log .now) (c .before .before .before .asked-of .result) (c .before .before .before .asked-of .ensures) (c .before .before .image .result) (c .before .before .image .ensures), (c .before .before .before .before .if1 .left, omega arith))
+put-recovered-requires c κs =
+    let i = c .before .before in
+    let q = i .before in
+    (lent-whole (q .before .before .before .before .args .log .now) (q .asked-of .ensures) (i .image .result) (i .image .ensures), (q .before .if1 .left, omega arith))
 
 same-length-2 : tie.Need-same-length-2
 same-length-2 c = search needs
 
 returns-2 : tie.Need-returns-2
-returns-2 c = rw (← lent-report (c .before .before .before .before .before .before .before .before .before .before .before .args .log .now) (c .before .before .before .before .before .before .before .asked-of .result) (c .before .before .before .before .before .before .before .asked-of .ensures) (c .before .before .before .before .before .before .image .result) (c .before .before .before .before .before .before .image .ensures) (c .before .before .before .before .before .before .before .before .if1 .left)) (c .before .before .before .put-recovered .ensures)
+returns-2 c =
+    let p = c .before .before .before in
+    let i = p .before .before .before in
+    let q = i .before in
+    rw (← lent-report (q .before .before .before .before .args .log .now) (q .asked-of .ensures) (i .image .result) (i .image .ensures) (q .before .if1 .left)) (p .put-recovered .ensures)
 
 pub put-report-spec : {M : Type 1} → statement M
 put-report-spec =

@@ -1,120 +1,69 @@
--- `soundness::free_ok` meets its contract. Assumes nothing.
-use Rattle.soundness.proofs.Tallying.{free-payload, free-field, free-all}
-use Rattle.model.specs.Image.{addr}
+-- `soundness::free_ok` meets its contract. Assumes nothing. After k turns the first k fields are 0.
+use Rattle.soundness.proofs.Tallying.{free-not}
+use Rattle.loops.proofs.Turns.{every-none, every-more, every-done}
+use Rattle.loops.specs.Loop.{every}
+use Rattle.model.specs.Image.{payload, field, get}
+use Rattle.model.specs.Sound.{freeOk}
+use Rattle.model.proofs.Keys.{has}
+use lib.Dec.{eqb}
+use mathlib.Core.Bool.{true}
+use mathlib.Core.Path.{_≡_, sym, _∙_}
+use Prim.Native.Nat.{_≤_, _-_}
 use native.Mathlib.Omega.{arith}
+use borrow.Author.Tests.{eq-eqb}
+use borrow.Author.Needs.{needs}
 use Rattle.soundness.proofs.free_ok.Statement.{statement}
 use Rattle.soundness.proofs.free_ok.Tie as tie
 
-mul-at : tie.Need-mul-at
-unfolding addr
-mul-at c = omega arith
+abbrev Inv-loop : tie.InvT-loop
+Inv-loop img p s j k₀ k = (k ≤ 4) × (every k (λ i. eqb (get img (field j i)) 0) ≡ true)
 
-add-at : tie.Need-add-at
-unfolding addr
-add-at c = omega arith
+abbrev μ-loop : tie.MeasureT-loop
+μ-loop img p s j k₀ k = 4 - k
 
-add-if1 : tie.Need-add-if1
-unfolding addr
-add-if1 c = omega (arith, c .pre)
+payload-at-requires : tie.Need-payload-at-requires Inv-loop μ-loop
+payload-at-requires c κs = has _ _ (c .before .pre .0 .long) (payload (c .before .args .j)) (c .before .pre .1)
 
-mul-if1 : tie.Need-mul-if1
-unfolding addr
-mul-if1 c = omega (arith, c .pre)
+returns : tie.Need-returns Inv-loop μ-loop
+returns c = free-not _ _ (λ h. omega (arith, h .value))
 
-shared-slice-read-if1 : tie.Need-shared-slice-read-if1
-unfolding addr
-shared-slice-read-if1 c = omega (arith, c .before .pre)
+loop-holds : tie.Need-loop-holds Inv-loop μ-loop
+loop-holds c = (omega arith, every-none _)
 
-returns : tie.Need-returns
-returns c = free-payload _ _ (λ e. omega arith)
+field-at-requires : tie.Need-field-at-requires Inv-loop μ-loop
+field-at-requires c κs = let s = c .before .before .before .before .before in has _ _ (s .pre .0 .long) (field (s .args .j) (c .before .loop .k)) (s .pre .1, c .loop-test .taken)
 
-add-if2 : tie.Need-add-if2
-unfolding addr
-add-if2 c = omega (arith, c .before .before .pre)
+returns-2 : tie.Need-returns-2 Inv-loop μ-loop
+returns-2 c = free-not _ _ (λ h. c .if2 .taken (c .before .field-at .ensures ∙ h .fields _ (c .before .before .loop-test .taken)))
 
-mul-if2 : tie.Need-mul-if2
-unfolding addr
-mul-if2 c = omega (arith, c .before .before .pre)
+add-k : tie.Need-add-k Inv-loop μ-loop
+add-k c = search needs
 
-shared-slice-read-if2 : tie.Need-shared-slice-read-if2
-unfolding addr
-shared-slice-read-if2 c = omega (arith, c .before .before .before .pre)
+loop-less : tie.Need-loop-less Inv-loop μ-loop
+loop-less c = search needs
 
-returns-2 : tie.Need-returns-2
-returns-2 c = free-field _ _ 0 _ (omega arith) (omega arith) (c .if2 .taken)
+loop-again : tie.Need-loop-again Inv-loop μ-loop
+loop-again c = (omega (arith, c .before .before .loop-test .taken), every-more _ _ (c .before .before .before .loop .inv .1) (eq-eqb _ _ (sym (c .before .field-at .ensures) ∙ c .if2 .left)))
 
-add-if3 : tie.Need-add-if3
-unfolding addr
-add-if3 c = omega (arith, c .before .before .before .before .pre)
-
-mul-if3 : tie.Need-mul-if3
-unfolding addr
-mul-if3 c = omega (arith, c .before .before .before .before .pre)
-
-shared-slice-read-if3 : tie.Need-shared-slice-read-if3
-unfolding addr
-shared-slice-read-if3 c = omega (arith, c .before .before .before .before .before .pre)
-
-returns-3 : tie.Need-returns-3
-returns-3 c = free-field _ _ 1 _ (omega arith) (omega arith) (c .if3 .taken)
-
-add-if4 : tie.Need-add-if4
-unfolding addr
-add-if4 c = omega (arith, c .before .before .before .before .before .before .pre)
-
-mul-if4 : tie.Need-mul-if4
-unfolding addr
-mul-if4 c = omega (arith, c .before .before .before .before .before .before .pre)
-
-shared-slice-read-if4 : tie.Need-shared-slice-read-if4
-unfolding addr
-shared-slice-read-if4 c = omega (arith, c .before .before .before .before .before .before .before .pre)
-
-returns-4 : tie.Need-returns-4
-returns-4 c = free-field _ _ 2 _ (omega arith) (omega arith) (c .if4 .taken)
-
-add-if5 : tie.Need-add-if5
-unfolding addr
-add-if5 c = omega (arith, c .before .before .before .before .before .before .before .before .pre)
-
-mul-if5 : tie.Need-mul-if5
-unfolding addr
-mul-if5 c = omega (arith, c .before .before .before .before .before .before .before .before .pre)
-
-shared-slice-read-if5 : tie.Need-shared-slice-read-if5
-unfolding addr
-shared-slice-read-if5 c = omega (arith, c .before .before .before .before .before .before .before .before .before .pre)
-
-returns-5 : tie.Need-returns-5
-returns-5 c = free-field _ _ 3 _ (omega arith) (omega arith) (c .if5 .taken)
-
-returns-6 : tie.Need-returns-6
-returns-6 c = free-all _ _ (omega arith) (c .before .before .before .before .before .before .if2 .left) (c .before .before .before .before .if3 .left) (c .before .before .if4 .left) (c .if5 .left)
+returns-3 : tie.Need-returns-3 Inv-loop μ-loop
+unfolding freeOk
+returns-3 c =
+    let s = c .before .before .before .before .before in
+    let z : get (s .args .img .now) (payload (s .args .j)) ≡ 0 = omega arith in
+    rw (eq-eqb _ _ z) (every-done _ 4 _ (c .before .loop .inv .0) (c .loop-test .left) (c .before .loop .inv .1))
 
 pub free-ok-spec : {M : Type 1} → statement M
 free-ok-spec =
     tie.close
     (tie.spec
-    mul-at
-    add-at
-    add-if1
-    mul-if1
-    shared-slice-read-if1
+    Inv-loop
+    μ-loop
+    payload-at-requires
     returns
-    add-if2
-    mul-if2
-    shared-slice-read-if2
+    loop-holds
+    field-at-requires
     returns-2
-    add-if3
-    mul-if3
-    shared-slice-read-if3
-    returns-3
-    add-if4
-    mul-if4
-    shared-slice-read-if4
-    returns-4
-    add-if5
-    mul-if5
-    shared-slice-read-if5
-    returns-5
-    returns-6)
+    add-k
+    loop-less
+    loop-again
+    returns-3)

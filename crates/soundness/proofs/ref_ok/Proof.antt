@@ -3,7 +3,8 @@ use Prim.Native.Nat.{_*_, _<_}
 use Rattle.soundness.proofs.Rows.{ref-used}
 use Rattle.image.proofs.Within.{word-in}
 use Rattle.model.proofs.Soundness.{ref-nothing, ref-not}
-use Rattle.model.specs.Image.{get, addr}
+use Rattle.model.specs.Image.{state}
+use Rattle.model.proofs.Keys.{has}
 use borrow.Author.Tests.{ne-eqb}
 use mathlib.Core.Path.{sym, _∙_}
 use native.Mathlib.Omega.{arith}
@@ -35,25 +36,14 @@ returns-3 c = λ κ e. sym (ref-not _ _ _ κ (λ z. c .before .before .if1 .left
 place-of-requires : tie.Need-place-of-requires
 place-of-requires c κs = search needs
 
-mul-if4 : tie.Need-mul-if4
-mul-if4 c = omega (arith, there c)
-
-add-if4 : tie.Need-add-if4
-add-if4 c = omega (arith, there c)
-
-mul-if4-2 : tie.Need-mul-if4-2
-mul-if4-2 c = omega (arith, there c)
-
-shared-slice-read-if4 : tie.Need-shared-slice-read-if4
-shared-slice-read-if4 c = omega (arith, there (c .before))
+state-at-requires : tie.Need-state-at-requires
+state-at-requires c κs = has _ _ (c .before .before .before .before .before .pre .long) (state (c .place-of .result)) (there c)
 
 returns-4 : tie.Need-returns-4
-unfolding get addr
-returns-4 c = λ κ e. sym (ref-used _ _ _ κ _ e (c .before .before .before .before .before .if1 .left) (omega arith) (omega arith) ∙ rw (← c .before .before .place-of .ensures, c .if4 .taken))
+returns-4 c = λ κ e. sym (ref-used _ _ _ κ _ e (c .before .before .before .before .before .if1 .left) (omega arith) (omega arith) ∙ rw (← c .before .before .place-of .ensures, ← c .before .state-at .ensures, c .if4 .taken))
 
 returns-5 : tie.Need-returns-5
-unfolding get addr
-returns-5 c = λ κ e. sym (ref-used _ _ _ κ _ e (c .before .before .before .before .before .if1 .left) (omega arith) (omega arith) ∙ rw (← c .before .before .place-of .ensures, ne-eqb _ _ (c .if4 .left)))
+returns-5 c = λ κ e. sym (ref-used _ _ _ κ _ e (c .before .before .before .before .before .if1 .left) (omega arith) (omega arith) ∙ rw (← c .before .before .place-of .ensures, ← c .before .state-at .ensures, ne-eqb _ _ (c .if4 .left)))
 
 pub ref-ok-spec : {M : Type 1} → statement M
 ref-ok-spec =
@@ -66,9 +56,6 @@ ref-ok-spec =
     cast-if3
     returns-3
     place-of-requires
-    mul-if4
-    add-if4
-    mul-if4-2
-    shared-slice-read-if4
+    state-at-requires
     returns-4
     returns-5)

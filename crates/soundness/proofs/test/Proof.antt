@@ -1,8 +1,8 @@
 -- `soundness::test` meets its contract. Assumes nothing.
 use Rattle.model.specs.Sound.{rootOk}
-use Rattle.model.specs.Image.{get, addr, root}
-use mathlib.Core.Path.{refl}
-use native.Mathlib.Omega.{arith}
+use Rattle.model.specs.Image.{root, flag, state}
+use Rattle.model.proofs.Keys.{has}
+use mathlib.Core.Path.{sym}
 use borrow.Author.Needs.{needs}
 use Rattle.soundness.proofs.test.Statement.{statement}
 use Rattle.soundness.proofs.test.Tie as tie
@@ -10,14 +10,8 @@ use Rattle.soundness.proofs.test.Tie as tie
 enum-told : tie.Need-enum-told
 enum-told c = search needs
 
-add-ref-ok : tie.Need-add-ref-ok
-add-ref-ok c = omega (arith, rw (c .enum-told .given .1) at (c .before .before .before .pre .1))
-
-mul-ref-ok : tie.Need-mul-ref-ok
-mul-ref-ok c = omega (arith, rw (c .enum-told .given .1) at (c .before .before .before .pre .1))
-
-shared-slice-read-ref-ok : tie.Need-shared-slice-read-ref-ok
-shared-slice-read-ref-ok c = omega (arith, rw (c .before .enum-told .given .1) at (c .before .before .before .before .pre .1))
+root-at-requires : tie.Need-root-at-requires
+root-at-requires c κs = has _ _ (c .before .before .before .pre .0 .long) (root (c .before .before .before .args .i)) (rw (c .enum-told .given .1) at (c .before .before .before .pre .1))
 
 ref-ok-requires : tie.Need-ref-ok-requires
 ref-ok-requires c κs = search needs
@@ -26,24 +20,23 @@ enum-told-2 : tie.Need-enum-told-2
 enum-told-2 c = search needs
 
 flag-ok-requires : tie.Need-flag-ok-requires
-flag-ok-requires c κs = (rw (c .enum-told2 .given .1) at (c .before .before .before .pre .1), omega arith)
+flag-ok-requires c κs = has _ _ (c .before .before .before .pre .0 .long) (flag (c .before .before .before .args .i)) (rw (c .enum-told2 .given .1) at (c .before .before .before .pre .1))
 
 enum-told-3 : tie.Need-enum-told-3
 enum-told-3 c = search needs
 
 flag-down-requires : tie.Need-flag-down-requires
-flag-down-requires c κs = (rw (c .enum-told3 .given .1) at (c .before .before .before .pre .1), omega arith)
+flag-down-requires c κs = has _ _ (c .before .before .before .pre .0 .long) (flag (c .before .before .before .args .i)) (rw (c .enum-told3 .given .1) at (c .before .before .before .pre .1))
 
 enum-told-4 : tie.Need-enum-told-4
 enum-told-4 c = search needs
 
 unmarked-requires : tie.Need-unmarked-requires
-unfolding addr
-unmarked-requires c κs = omega (arith, rw (c .enum-told4 .given .1) at (c .before .before .before .pre .1))
+unmarked-requires c κs = has _ _ (c .before .before .before .pre .0 .long) (state (c .before .before .before .args .i)) (rw (c .enum-told4 .given .1) at (c .before .before .before .pre .1))
 
 returns : tie.Need-returns
-unfolding rootOk get addr
-returns c = rw (c .before .before .enum-told .given .1) (c .ref-ok .ensures (root (c .before .before .before .before .before .args .i)) refl)
+unfolding rootOk
+returns c = rw (c .before .before .enum-told .given .1) (c .ref-ok .ensures (root (c .before .before .before .before .before .args .i)) (sym (c .before .root-at .ensures)))
 
 returns-2 : tie.Need-returns-2
 returns-2 c = rw (c .before .enum-told2 .given .1) (c .flag-ok .ensures)
@@ -59,9 +52,7 @@ test-spec =
     tie.close
     (tie.spec
     enum-told
-    add-ref-ok
-    mul-ref-ok
-    shared-slice-read-ref-ok
+    root-at-requires
     ref-ok-requires
     enum-told-2
     flag-ok-requires

@@ -6,6 +6,10 @@ use borrow.Author.Needs.{needs}
 use Rattle.todo.proofs.note.Statement.{statement}
 use Rattle.todo.proofs.note.Tie as tie
 
+-- past the two tests of the place
+abbrev above : tie.After-enter → tie.Else2
+above c = c .before .before .before .before
+
 returns : tie.Need-returns
 returns c = (note-nothing _ _ _ _ _ (c .if1 .taken), more-none (c .before .pre .1))
 
@@ -25,7 +29,9 @@ enter-requires : tie.Need-enter-requires
 enter-requires c κs = search needs
 
 returns-4 : tie.Need-returns-4
-returns-4 c = (c .enter .ensures .0 ∙ word-in _ _ _ _ _ _ (c .before .before .before .before .before .place-of .ensures) (c .before .before .before .before .before .before .if1 .left) (c .before .before .before .before .if2 .left) (omega arith), c .enter .ensures .1)
+returns-4 c =
+    let d = above c in
+    (c .enter .ensures .0 ∙ word-in _ _ _ _ _ _ (d .before .place-of .ensures) (d .before .before .if1 .left) (d .if2 .left) (omega arith), c .enter .ensures .1)
 
 pub note-spec : {M : Type 1} → statement M
 note-spec =

@@ -1,4 +1,4 @@
--- `todo::spread` meets its contract. Assumes nothing.
+-- `todo::spread` meets its contract. Assumes nothing. Of the list's places the first `at` are visited: `Spreading`, the theory of walks at work.
 use Rattle.todo.proofs.Noting.{noted-most}
 use Rattle.todo.proofs.Leading.{Spreading, spreading-first, next-in, spreading-next, spreading-done}
 use Prim.Native.Nat.{_-_}
@@ -12,6 +12,10 @@ Inv-loop img p s lo n marks₀ list₀ m end₀ at₀ marks list end at = Spread
 
 abbrev μ-loop : tie.MeasureT-loop
 μ-loop img p s lo n marks₀ list₀ m end₀ at₀ marks list end at = 1024 - at
+
+-- where a turn has read its place
+abbrev turn : tie.After-visit-arg2 Inv-loop μ-loop → tie.After-wide Inv-loop μ-loop
+turn c = c .before .before
 
 loop-holds : tie.Need-loop-holds Inv-loop μ-loop
 loop-holds c = spreading-first (c .before .pre .1 .1)
@@ -27,18 +31,19 @@ wide-requires c κs = search needs
 
 visit-requires : tie.Need-visit-requires Inv-loop μ-loop
 visit-requires c κs =
-    let inv = c .before .before .before .before .before .loop .inv in
-    let pre = c .before .before .before .before .before .before .before .pre in
-    (pre .0 .wide, (omega (arith, pre .0 .long, next-in inv (c .before .before .before .before .loop-test .taken) _ (c .before .before .wide .ensures)), inv .noted))
+    let d = turn c .before .before in
+    (d .before .before .before .pre .0, (omega (arith, next-in (d .before .loop .inv) (d .loop-test .taken) _ (turn c .wide .ensures)), d .before .loop .inv .noted))
 
 add-at : tie.Need-add-at Inv-loop μ-loop
 add-at c = search needs
 
 loop-less : tie.Need-loop-less Inv-loop μ-loop
-loop-less c = omega (arith, noted-most (c .before .before .before .before .before .before .loop .inv .noted))
+loop-less c = omega (arith, noted-most (turn (c .before) .before .before .before .loop .inv .noted))
 
 loop-again : tie.Need-loop-again Inv-loop μ-loop
-loop-again c = spreading-next (c .before .before .before .before .before .before .loop .inv) (c .before .before .before .before .before .loop-test .taken) _ (c .before .before .before .wide .ensures) _ (omega arith) (c .visit .ensures)
+loop-again c =
+    let d = turn (c .before) .before .before in
+    spreading-next (d .before .loop .inv) (d .loop-test .taken) _ (turn (c .before) .wide .ensures) _ (omega arith) (c .visit .ensures)
 
 returns : tie.Need-returns Inv-loop μ-loop
 returns c = spreading-done (c .before .before .before .pre .1 .1 .wide) (c .loop-test .left) (c .before .loop .inv)

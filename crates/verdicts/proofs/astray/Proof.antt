@@ -1,8 +1,8 @@
 -- `verdicts::astray` meets its contract. Assumes nothing.
-use Prim.Native.Nat.{_+_, _*_, _<_}
-use lib.ListN.{length}
+use Prim.Native.Nat.{_*_, _<_}
 use Rattle.verdicts.specs.Searches.{astray}
-use Rattle.model.specs.Image.{get, addr, placeOf}
+use Rattle.model.specs.Image.{state, placeOf}
+use Rattle.image.proofs.Within.{has-word}
 use native.Mathlib.Omega.{arith}
 use borrow.Author.Tests.{eq-eqb, ne-eqb}
 use borrow.Author.Needs.{needs}
@@ -16,42 +16,19 @@ returns c = rw (eq-eqb _ _ (c .if1 .taken))
 place-of-requires : tie.Need-place-of-requires
 place-of-requires c κs = search needs
 
--- the place is one of the image's
-place-in : (c : tie.After-place-of) → 37 + 7 * c .place-of .result < length (c .before .before .before .args .img .now)
-place-in c =
-    let l : placeOf (c .before .before .before .args .s) (c .before .before .before .args .w) < c .before .before .before .args .p * c .before .before .before .args .s =
-    c .before .before .before .pre .1 (c .before .if1 .left) in
-    omega arith
-
-mul-if2 : tie.Need-mul-if2
-mul-if2 c = omega (arith, place-in c)
-
-add-if2 : tie.Need-add-if2
-add-if2 c = omega (arith, place-in c)
-
-mul-if2-2 : tie.Need-mul-if2-2
-mul-if2-2 c = omega (arith, place-in c)
-
-shared-slice-read-if2 : tie.Need-shared-slice-read-if2
-shared-slice-read-if2 c = omega (arith, place-in (c .before))
+state-at-requires : tie.Need-state-at-requires
+state-at-requires c κs =
+    let a = c .before .before .before in
+    let l : placeOf (a .args .s) (a .args .w) < a .args .p * a .args .s = a .pre .1 (c .before .if1 .left) in
+    has-word _ _ _ (a .pre .0) (state (c .place-of .result)) (omega arith)
 
 returns-2 : tie.Need-returns-2
-unfolding astray get addr
-returns-2 c = rw (ne-eqb _ _ (c .before .before .before .if1 .left), ← (c .before .before .place-of .ensures), eq-eqb _ _ (c .if2 .taken))
+unfolding astray
+returns-2 c = rw (ne-eqb _ _ (c .before .before .before .if1 .left), ← (c .before .before .place-of .ensures), ← (c .before .state-at .ensures), eq-eqb _ _ (c .if2 .taken))
 
 returns-3 : tie.Need-returns-3
-unfolding astray get addr
-returns-3 c = rw (ne-eqb _ _ (c .before .before .before .if1 .left), ← (c .before .before .place-of .ensures), ne-eqb _ _ (c .if2 .left))
+unfolding astray
+returns-3 c = rw (ne-eqb _ _ (c .before .before .before .if1 .left), ← (c .before .before .place-of .ensures), ← (c .before .state-at .ensures), ne-eqb _ _ (c .if2 .left))
 
 pub astray-spec : {M : Type 1} → statement M
-astray-spec =
-    tie.close
-    (tie.spec
-    returns
-    place-of-requires
-    mul-if2
-    add-if2
-    mul-if2-2
-    shared-slice-read-if2
-    returns-2
-    returns-3)
+astray-spec = tie.close (tie.spec returns place-of-requires state-at-requires returns-2 returns-3)

@@ -1,4 +1,4 @@
--- `verdicts::first` meets its contract. Assumes nothing.
+-- `verdicts::first` meets its contract. Assumes nothing. What is searched from 0 on is after i turns what is searched from i on.
 use Rattle.loops.proofs.Walks.{first-here, first-on, first-end}
 use Rattle.verdicts.specs.Searches.{meets}
 use Rattle.loops.specs.Loop.{first}

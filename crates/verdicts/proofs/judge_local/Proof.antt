@@ -1,9 +1,10 @@
 -- `verdicts::judge_local` meets its contract. Assumes nothing.
+use Rattle.loops.proofs.Tests.{granted, denied}
 use Rattle.verdicts.proofs.Checks.{passes, stops}
 use Rattle.model.specs.Judge.{judge}
 use native.Mathlib.Omega.{arith}
-use mathlib.Core.Path.{refl, sym, _∙_}
-use borrow.Author.Tests.{lt-ltb, le-ltb, not-true, not-false}
+use mathlib.Core.Path.{refl}
+use borrow.Author.Tests.{lt-ltb, le-ltb}
 use borrow.Author.Needs.{needs}
 use Rattle.verdicts.proofs.judge_local.Statement.{statement}
 use Rattle.verdicts.proofs.judge_local.Tie as tie
@@ -26,11 +27,11 @@ refuse-requires-2 c κs = search needs
 
 returns-2 : tie.Need-returns-2
 unfolding judge
-returns-2 c = passes _ _ (omega (arith, lt-ltb)) (stops _ (sym (c .before .before .rooted .ensures) ∙ not-true (c .before .before .rooted .result) (c .before .if2 .taken)) (c .refuse2 .ensures))
+returns-2 c = passes _ _ (omega (arith, lt-ltb)) (stops _ (denied (c .before .before .rooted .ensures) (c .before .if2 .taken)) (c .refuse2 .ensures))
 
 returns-3 : tie.Need-returns-3
 unfolding judge
-returns-3 c = passes _ _ (omega (arith, lt-ltb)) (passes _ _ (sym (c .before .rooted .ensures) ∙ not-false (c .before .rooted .result) (c .if2 .left)) refl)
+returns-3 c = passes _ _ (omega (arith, lt-ltb)) (passes _ _ (granted (c .before .rooted .ensures) (c .if2 .left)) refl)
 
 pub judge-local-spec : {M : Type 1} → statement M
 judge-local-spec =

@@ -1,23 +1,23 @@
 -- `verdicts::judge_open` meets its contract. Assumes nothing.
-use Rattle.loops.proofs.Tests.{eq-not, ne-not}
+use Rattle.loops.proofs.Tests.{eq-not, ne-not, granted, denied}
 use Rattle.verdicts.proofs.Checks.{passes, stops}
 use Rattle.model.specs.Judge.{judge}
-use Rattle.model.specs.Image.{get, addr}
+use Rattle.model.specs.Image.{phase}
+use Rattle.image.proofs.Within.{has-word}
 use native.Mathlib.Omega.{arith}
-use mathlib.Core.Path.{refl, sym, _∙_}
-use borrow.Author.Tests.{not-true, not-false}
+use mathlib.Core.Path.{refl}
 use borrow.Author.Needs.{needs}
 use Rattle.verdicts.proofs.judge_open.Statement.{statement}
 use Rattle.verdicts.proofs.judge_open.Tie as tie
 
-shared-slice-read-if1 : tie.Need-shared-slice-read-if1
-shared-slice-read-if1 c = search needs
+head-at-requires : tie.Need-head-at-requires
+head-at-requires c κs = has-word _ _ _ (c .before .pre) phase (omega arith)
 
 refuse-requires : tie.Need-refuse-requires
 refuse-requires c κs = search needs
 
 returns : tie.Need-returns
-unfolding judge get addr
+unfolding judge
 returns c = stops _ (omega (arith, eq-not)) (c .refuse .ensures)
 
 rooted-requires : tie.Need-rooted-requires
@@ -27,18 +27,18 @@ refuse-requires-2 : tie.Need-refuse-requires-2
 refuse-requires-2 c κs = search needs
 
 returns-2 : tie.Need-returns-2
-unfolding judge get addr
-returns-2 c = passes _ _ (omega (arith, ne-not)) (stops _ (sym (c .before .before .rooted .ensures) ∙ not-true (c .before .before .rooted .result) (c .before .if2 .taken)) (c .refuse2 .ensures))
+unfolding judge
+returns-2 c = passes _ _ (omega (arith, ne-not)) (stops _ (denied (c .before .before .rooted .ensures) (c .before .if2 .taken)) (c .refuse2 .ensures))
 
 returns-3 : tie.Need-returns-3
-unfolding judge get addr
-returns-3 c = passes _ _ (omega (arith, ne-not)) (passes _ _ (sym (c .before .rooted .ensures) ∙ not-false (c .before .rooted .result) (c .if2 .left)) refl)
+unfolding judge
+returns-3 c = passes _ _ (omega (arith, ne-not)) (passes _ _ (granted (c .before .rooted .ensures) (c .if2 .left)) refl)
 
 pub judge-open-spec : {M : Type 1} → statement M
 judge-open-spec =
     tie.close
     (tie.spec
-    shared-slice-read-if1
+    head-at-requires
     refuse-requires
     returns
     rooted-requires

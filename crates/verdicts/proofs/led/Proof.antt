@@ -1,5 +1,7 @@
 -- `verdicts::led` meets its contract. Assumes nothing.
 use Rattle.verdicts.proofs.Searches.{led-root, led-slot, led-so}
+use Rattle.image.proofs.Within.{places}
+use native.Mathlib.Omega.{arith}
 use mathlib.Core.Path.{sym}
 use borrow.Author.Needs.{needs}
 use Rattle.verdicts.proofs.led.Statement.{statement}
@@ -12,7 +14,7 @@ returns : tie.Need-returns
 returns c = sym (led-root _ _ _ (search needs))
 
 mul-n : tie.Need-mul-n
-mul-n c = search needs
+mul-n c = omega (arith, places (c .before .before .before .pre))
 
 first-requires-2 : tie.Need-first-requires-2
 first-requires-2 c κs = search needs

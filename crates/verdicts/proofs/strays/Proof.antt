@@ -1,13 +1,14 @@
--- `verdicts::strays` meets its contract. Assumes nothing.
+-- `verdicts::strays` meets its contract. Assumes nothing. After k turns the first k fields lead to marked objects.
 use Prim.Native.Nat.{ℕ, _≤_, _-_}
 use native.Mathlib.Omega.{arith}
 use mathlib.Core.Path.{_≡_, sym, _∙_, subst}
-use mathlib.Core.Bool.{Bool, true, false}
+use mathlib.Core.Bool.{Bool, true, false, not}
 use borrow.Author.Tests.{eq-eqb, ne-eqb, not-true, not-false}
 use Rattle.loops.specs.Loop.{every}
 use Rattle.loops.proofs.Turns.{every-none, every-more, every-fails}
 use Rattle.model.specs.Judge.{leadsOn}
-use Rattle.model.specs.Image.{Image, get, addr, field, a-field}
+use Rattle.model.specs.Image.{Image, state, field, a-field}
+use Rattle.image.proofs.Within.{has-word}
 use Rattle.verdicts.specs.Searches.{astray, strays}
 use borrow.Author.Needs.{needs}
 use Rattle.verdicts.proofs.strays.Statement.{statement}
@@ -18,53 +19,44 @@ on : ℕ → Image → ℕ → ℕ → Bool
 on S img j k = leadsOn S img (field j k)
 
 abbrev Inv-loop : tie.InvT-loop
-Inv-loop img p s j at k₀ k = (k ≤ 4) × (every k (on s img j) ≡ true)
+Inv-loop img p s j k₀ k = (k ≤ 4) × (every k (on s img j) ≡ true)
 
 abbrev μ-loop : tie.MeasureT-loop
-μ-loop img p s j at k₀ k = 4 - k
+μ-loop img p s j k₀ k = 4 - k
 
-mul-at : tie.Need-mul-at Inv-loop μ-loop
-mul-at c = search needs
-
-add-at : tie.Need-add-at Inv-loop μ-loop
-add-at c = search needs
-
-mul-if1 : tie.Need-mul-if1 Inv-loop μ-loop
-mul-if1 c = search needs
-
-shared-slice-read-if1 : tie.Need-shared-slice-read-if1 Inv-loop μ-loop
-shared-slice-read-if1 c = search needs
+state-at-requires : tie.Need-state-at-requires Inv-loop μ-loop
+state-at-requires c κs = has-word _ _ _ (c .before .pre .0) (state (c .before .args .j)) (c .before .pre .1)
 
 returns : tie.Need-returns Inv-loop μ-loop
-unfolding strays get addr
-returns c = rw (ne-eqb _ _ (c .if1 .taken))
+unfolding strays
+returns c = rw (← (c .before .state-at .ensures), ne-eqb _ _ (c .if1 .taken))
 
 loop-holds : tie.Need-loop-holds Inv-loop μ-loop
 loop-holds c = (omega arith, every-none _)
 
-add-w : tie.Need-add-w Inv-loop μ-loop
-add-w c = search needs
+field-at-requires : tie.Need-field-at-requires Inv-loop μ-loop
+field-at-requires c κs = let a = c .before .before .before .before .before in has-word _ _ _ (a .pre .0) (field (a .args .j) (c .before .loop .k)) (a .pre .1, omega arith)
 
-add-w-2 : tie.Need-add-w-2 Inv-loop μ-loop
-add-w-2 c = search needs
-
-mul-w : tie.Need-mul-w Inv-loop μ-loop
-mul-w c = search needs
-
-shared-slice-read-w : tie.Need-shared-slice-read-w Inv-loop μ-loop
-shared-slice-read-w c = search needs
+abbrev start : tie.After-field-at Inv-loop μ-loop → tie.Start Inv-loop μ-loop
+start c = c .before .before .before .before .before .before
 
 astray-requires : tie.Need-astray-requires Inv-loop μ-loop
-unfolding get addr
-astray-requires c κs = (c .before .before .before .before .before .before .pre .0, c .before .before .before .before .before .before .pre .0 .refs (field (c .before .before .before .before .before .before .args .j) (c .before .before .loop .k)) (a-field (c .before .before .before .before .before .before .pre .1) (omega arith)))
+astray-requires c κs =
+    let a = start c in
+    (a .pre .0, rw (c .field-at .ensures) (a .pre .0 .refs (field (a .args .j) (c .before .before .loop .k)) (a-field (a .pre .1) (omega arith))))
+
+-- what the turn's answer says of the field
+told : (c : tie.After-astray Inv-loop μ-loop) → let a = start (c .before) .args in c .astray .result ≡ not (on (a .s) (a .img .now) (a .j) (c .before .before .before .loop .k))
+unfolding astray on
+told c = rw (← (c .before .field-at .ensures)) (c .astray .ensures)
 
 returns-2 : tie.Need-returns-2 Inv-loop μ-loop
-unfolding strays astray get addr on
+unfolding strays on
 returns-2 c =
-    let a = c .before .before .before .before .before .before .before .before .args in
-    let k : ℕ = c .before .before .before .before .loop .k in
-    let off : every 4 (on (a .s) (a .img .now) (a .j)) ≡ false = sym (every-fails (on (a .s) (a .img .now) (a .j)) 4 k (omega arith) (not-true (on (a .s) (a .img .now) (a .j) k) (sym (c .before .astray .ensures) ∙ c .if2 .taken))) in
-    rw (eq-eqb _ _ (c .before .before .before .before .before .if1 .left), off)
+    let a = start (c .before .before) .args in
+    let d = c .before .before .before .before .before in
+    let off : every 4 (on (a .s) (a .img .now) (a .j)) ≡ false = sym (every-fails (on (a .s) (a .img .now) (a .j)) 4 (c .before .before .before .before .loop .k) (omega arith) (not-true _ (sym (told (c .before)) ∙ c .if2 .taken))) in
+    rw (← (d .before .state-at .ensures), eq-eqb _ _ (d .if1 .left), off)
 
 add-k : tie.Need-add-k Inv-loop μ-loop
 add-k c = search needs
@@ -73,18 +65,15 @@ loop-less : tie.Need-loop-less Inv-loop μ-loop
 loop-less c = omega arith
 
 loop-again : tie.Need-loop-again Inv-loop μ-loop
-unfolding astray get addr on
-loop-again c =
-    let a = c .before .before .before .before .before .before .before .before .args in
-    (omega arith, every-more _ _ (c .before .before .before .before .loop .inv .1) (not-false (on (a .s) (a .img .now) (a .j) (c .before .before .before .before .loop .k)) (sym (c .before .astray .ensures) ∙ c .if2 .left)))
+loop-again c = (omega arith, every-more _ _ (c .before .before .before .before .loop .inv .1) (not-false _ (sym (told (c .before)) ∙ c .if2 .left)))
 
 returns-3 : tie.Need-returns-3 Inv-loop μ-loop
-unfolding strays get addr on
+unfolding strays on
 returns-3 c =
     let a = c .before .before .before .before .before .args in
     let four : c .before .loop .k ≡ 4 = omega arith in
     let all : every 4 (on (a .s) (a .img .now) (a .j)) ≡ true = subst (λ (n : ℕ). every n (on (a .s) (a .img .now) (a .j)) ≡ true) four (c .before .loop .inv .1) in
-    rw (eq-eqb _ _ (c .before .before .if1 .left), all)
+    rw (← (c .before .before .before .state-at .ensures), eq-eqb _ _ (c .before .before .if1 .left), all)
 
 pub strays-spec : {M : Type 1} → statement M
 strays-spec =
@@ -92,16 +81,10 @@ strays-spec =
     (tie.spec
     Inv-loop
     μ-loop
-    mul-at
-    add-at
-    mul-if1
-    shared-slice-read-if1
+    state-at-requires
     returns
     loop-holds
-    add-w
-    add-w-2
-    mul-w
-    shared-slice-read-w
+    field-at-requires
     astray-requires
     returns-2
     add-k

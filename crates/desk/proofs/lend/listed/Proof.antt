@@ -46,13 +46,15 @@ same-length-3 : tie.Need-same-length-3 Inv-loop μ-loop
 same-length-3 c = let h = c .before .before .before .before .before .loop .inv .same in search (needs, h)
 
 returns-3 : tie.Need-returns-3 Inv-loop μ-loop
-returns-3 c = (search needs, going-large _ _ _ _ _ _ (c .before .before .before .before .before .loop .inv) _ _ (sym (c .before .before .before .before .next-number .ensures) ∙ c .before .before .v .given .1) (omega arith))
+returns-3 c = let o = c .before .before in
+    (search needs, going-large _ _ _ _ _ _ (o .before .before .before .loop .inv) _ _ (sym (o .before .before .next-number .ensures) ∙ o .v .given .1) (omega arith))
 
 same-length-4 : tie.Need-same-length-4 Inv-loop μ-loop
-same-length-4 c = let h = c .before .before .before .before .before .before .loop .inv .same in search (needs, h)
+same-length-4 c = let o = c .before .before .before in let h = o .before .before .before .loop .inv .same in search (needs, h)
 
 returns-4 : tie.Need-returns-4 Inv-loop μ-loop
-returns-4 c = (search needs, going-full _ _ _ _ _ _ (c .before .before .before .before .before .before .loop .inv) _ _ (sym (c .before .before .before .before .before .next-number .ensures) ∙ c .before .before .before .v .given .1) (c .if2 .taken))
+returns-4 c = let o = c .before .before .before in
+    (search needs, going-full _ _ _ _ _ _ (o .before .before .before .loop .inv) _ _ (sym (o .before .before .next-number .ensures) ∙ o .v .given .1) (c .if2 .taken))
 
 cast-list : tie.Need-cast-list Inv-loop μ-loop
 cast-list c = search needs
@@ -67,7 +69,8 @@ loop-less : tie.Need-loop-less Inv-loop μ-loop
 loop-less c = simp length-set (omega arith)
 
 loop-again : tie.Need-loop-again Inv-loop μ-loop
-loop-again c = going-on _ _ _ _ _ _ (c .before .before .before .before .before .before .loop .inv) _ _ (sym (c .before .before .before .before .before .next-number .ensures) ∙ c .before .before .before .v .given .1) (omega arith) (omega arith)
+loop-again c = let o = c .before .before .before in
+    going-on _ _ _ _ _ _ (o .before .before .before .loop .inv) _ _ (sym (o .before .before .next-number .ensures) ∙ o .v .given .1) (omega arith) (omega arith)
 
 pub listed-spec : {M : Type 1} → statement M
 listed-spec =

@@ -33,7 +33,7 @@ same-length : tie.Need-same-length
 same-length c = search needs
 
 returns-4 : tie.Need-returns-4
-returns-4 c = put-done _ _ _ (c .before .before .before .before .before .before .if1 .left) (omega arith) _ (c .before .before .copy .ensures .1)
+returns-4 c = let e = c .before .before .before .before in put-done _ _ _ (e .before .before .if1 .left) (omega arith) _ (c .before .before .copy .ensures .1)
 
 pub put-at-spec : {M : Type 1} → statement M
 put-at-spec =

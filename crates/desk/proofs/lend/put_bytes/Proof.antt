@@ -51,7 +51,10 @@ same-length : tie.Need-same-length
 same-length c = search needs
 
 returns-3 : tie.Need-returns-3
-returns-3 c = put-from _ _ _ _ _ (sym (c .before .before .before .before .before .before .before .before .before .before .before .before .next-number .ensures) ∙ c .before .before .before .before .before .before .before .before .before .before .at .given .1) _ (c .before .before .before .before .before .before .before .before .room .ensures) _ (c .before .before .before .before .before .before .listed .ensures .1) _ (c .before .before .put-at .ensures)
+returns-3 c =
+    let l = c .before .before .before .before .before .before in
+    let o = l .before .before .before .before in
+    put-from _ _ _ _ _ (sym (o .before .before .next-number .ensures) ∙ o .at .given .1) _ (l .before .before .room .ensures) _ (l .listed .ensures .1) _ (c .before .before .put-at .ensures)
 
 pub put-bytes-spec : {M : Type 1} → statement M
 put-bytes-spec =

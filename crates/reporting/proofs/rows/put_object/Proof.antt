@@ -16,24 +16,31 @@ put-text-requires c κs = let a = c .before .before .before .args in room-first 
 put-spaced-requires : tie.Need-put-spaced-requires
 unfolding row
 put-spaced-requires c κs =
-    let a = c .before .before .before .before .before .before .before .args in
-    room-first (spaced (a .p)) (ending (a .s ∷ a .v ∷ [])) _ _ (room-then (c .before .before .before .put-text .ensures) (ending (a .p ∷ a .s ∷ a .v ∷ [])) (c .before .before .before .before .before .before .before .pre))
+    let w = c .before .before .before in
+    let b = w .before .before .before .before in
+    let a = b .args in
+    room-first (spaced (a .p)) (ending (a .s ∷ a .v ∷ [])) _ _ (room-then (w .put-text .ensures) (ending (a .p ∷ a .s ∷ a .v ∷ [])) (b .pre))
 
 put-spaced-requires-2 : tie.Need-put-spaced-requires-2
 unfolding row
 put-spaced-requires-2 c κs =
-    let a = c .before .before .before .before .before .before .before .before .before .before .before .args in
+    let p = c .before .before .before in
+    let w = p .before .before .before .before in
+    let b = w .before .before .before .before in
+    let a = b .args in
     room-first (spaced (a .s)) (ending (a .v ∷ [])) _ _
-    (room-then (c .before .before .before .put-spaced .ensures) (ending (a .s ∷ a .v ∷ []))
-    (room-then (c .before .before .before .before .before .before .before .put-text .ensures) (ending (a .p ∷ a .s ∷ a .v ∷ [])) (c .before .before .before .before .before .before .before .before .before .before .before .pre)))
+    (room-then (p .put-spaced .ensures) (ending (a .s ∷ a .v ∷ [])) (room-then (w .put-text .ensures) (ending (a .p ∷ a .s ∷ a .v ∷ [])) (b .pre)))
 
 put-last-requires : tie.Need-put-last-requires
 unfolding row
 put-last-requires c κs =
-    let a = c .before .before .before .before .before .before .before .before .before .before .before .before .before .before .before .args in
-    room-then (c .before .before .before .put-spaced2 .ensures) (ending (a .v ∷ []))
-    (room-then (c .before .before .before .before .before .before .before .put-spaced .ensures) (ending (a .s ∷ a .v ∷ []))
-    (room-then (c .before .before .before .before .before .before .before .before .before .before .before .put-text .ensures) (ending (a .p ∷ a .s ∷ a .v ∷ [])) (c .before .before .before .before .before .before .before .before .before .before .before .before .before .before .before .pre)))
+    let s = c .before .before .before in
+    let p = s .before .before .before .before in
+    let w = p .before .before .before .before in
+    let b = w .before .before .before .before in
+    let a = b .args in
+    room-then (s .put-spaced2 .ensures) (ending (a .v ∷ []))
+    (room-then (p .put-spaced .ensures) (ending (a .s ∷ a .v ∷ [])) (room-then (w .put-text .ensures) (ending (a .p ∷ a .s ∷ a .v ∷ [])) (b .pre)))
 
 same-length : tie.Need-same-length
 same-length c = search needs
@@ -41,8 +48,10 @@ same-length c = search needs
 returns : tie.Need-returns
 unfolding row
 returns c =
-    put-then (c .before .before .before .before .before .before .before .before .before .before .before .before .before .before .put-text .ensures)
-    (put-then (c .before .before .before .before .before .before .before .before .before .before .put-spaced .ensures) (put-then (c .before .before .before .before .before .before .put-spaced2 .ensures) (c .before .before .put-last .ensures)))
+    let l = c .before .before in
+    let s = l .before .before .before .before in
+    let p = s .before .before .before .before in
+    put-then (p .before .before .before .before .put-text .ensures) (put-then (p .put-spaced .ensures) (put-then (s .put-spaced2 .ensures) (l .put-last .ensures)))
 
 pub put-object-spec : {M : Type 1} → statement M
 put-object-spec =

@@ -1,8 +1,10 @@
 -- `reporting::rows::put_objects` meets its contract. Assumes nothing.
+-- The loop has put the objects of the first j places.
 use Rattle.reporting.proofs.Texts.{put-more, room-more}
 use Rattle.reporting.specs.Report.{objects}
 use Rattle.writer.proofs.Puts.{put-none, put-length}
-use Rattle.model.specs.Image.{addr}
+use Rattle.model.proofs.Keys.{has}
+use Rattle.model.specs.Image.{state, payload}
 use Rattle.lines.specs.Print.{Put}
 use mathlib.Core.Path.{_≡_}
 use Prim.Native.Nat.{_-_, _≤_}
@@ -22,11 +24,16 @@ unfolding objects
 loop-holds c = (search needs, put-none _ _)
 
 put-place-requires : tie.Need-put-place-requires Inv-loop μ-loop
-unfolding addr
 put-place-requires c κs =
-    let a = c .before .before .before .before .before .args in
-    let p = c .before .before .loop .inv .1 in
-    (omega arith, omega arith, omega arith, room-more _ _ _ p (a .n) (c .before .loop-test .taken) (c .before .before .before .before .before .pre .0) (c .before .before .before .before .before .pre .1) (c .before .before .before .before .before .pre .3))
+    let i = c .before .before in
+    let b = i .before .before .before in
+    let less = c .before .loop-test .taken in (
+      omega arith,
+      omega arith,
+      has _ _ (b .pre .2) (state _) less,
+      has _ _ (b .pre .2) (payload _) less,
+      room-more _ _ _ (i .loop .inv .1) (b .args .n) less (b .pre .0) (b .pre .1) (b .pre .3),
+    )
 
 add-j : tie.Need-add-j Inv-loop μ-loop
 add-j c = search needs

@@ -1,6 +1,5 @@
 -- `reporting::rows::put_refused` meets its contract. Assumes nothing.
 use Rattle.reporting.proofs.Texts.{row-room, row-put}
--- `reporting::rows::put_refused` meets its contract. Assumes nothing.
 use Rattle.reporting.specs.Report.{refusedText}
 use Rattle.writer.proofs.Puts.{put-then}
 use native.Mathlib.Omega.{arith}
@@ -25,7 +24,7 @@ same-length c = search needs
 
 returns : tie.Need-returns
 unfolding refusedText
-returns c = put-then (c .before .before .before .before .before .before .before .put-row .ensures) (c .before .before .put-row2 .ensures)
+returns c = let l = c .before .before in put-then (l .before .before .before .before .before .put-row .ensures) (l .put-row2 .ensures)
 
 pub put-refused-spec : {M : Type 1} → statement M
 put-refused-spec =

@@ -13,14 +13,17 @@ put-text-requires c κs = let a = c .before .before .before .args in room-first 
 
 put-last-requires : tie.Need-put-last-requires
 unfolding row
-put-last-requires c κs = room-then (c .before .before .before .put-text .ensures) (ending (c .before .before .before .before .before .before .before .args .n ∷ [])) (c .before .before .before .before .before .before .before .pre)
+put-last-requires c κs =
+    let w = c .before .before .before in
+    let b = w .before .before .before .before in
+    room-then (w .put-text .ensures) (ending (b .args .n ∷ [])) (b .pre)
 
 same-length : tie.Need-same-length
 same-length c = search needs
 
 returns : tie.Need-returns
 unfolding row
-returns c = put-then (c .before .before .before .before .before .before .put-text .ensures) (c .before .before .put-last .ensures)
+returns c = let l = c .before .before in put-then (l .before .before .before .before .put-text .ensures) (l .put-last .ensures)
 
 pub put-row-spec : {M : Type 1} → statement M
 put-row-spec = tie.close (tie.spec put-text-requires put-last-requires same-length returns)

@@ -30,7 +30,8 @@ enum-told : tie.Need-enum-told
 enum-told c = search needs
 
 returns-2 : tie.Need-returns-2
-returns-2 c = next-found _ _ _ (c .before .before .before .before .before .before .word-at .ensures) (c .before .before .before .before .before .if1 .left) _ (sym (c .before .v .given .1) ∙ c .before .before .before .number .ensures)
+returns-2 c = let p = c .before .before .before .before .before in
+    next-found _ _ _ (p .before .word-at .ensures) (p .if1 .left) _ (sym (c .before .v .given .1) ∙ c .before .before .before .number .ensures)
 
 returns-3 : tie.Need-returns-3
 returns-3 c = next-found _ _ _ (c .before .before .before .before .before .word-at .ensures) (c .before .before .before .before .if1 .left) _ (sym (c .enum-told .given .1) ∙ c .before .before .number .ensures)

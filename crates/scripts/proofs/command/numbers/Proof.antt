@@ -40,16 +40,20 @@ enum-known-v : tie.Need-enum-known-v Inv-loop μ-loop
 enum-known-v c = search needs
 
 returns-3 : tie.Need-returns-3 Inv-loop μ-loop
-returns-3 c = reading-over _ _ _ _ _ (c .before .before .before .before .before .before .loop .inv) _ (c .before .before .before .before .before .next-number .ensures) _ _ (c .before .before .before .v .given .1) (search needs)
+returns-3 c = let p = c .before .before .before .before .before in
+    reading-over _ _ _ _ _ (p .before .loop .inv) _ (p .next-number .ensures) _ _ (c .before .before .before .v .given .1) (search needs)
 
 with-requires : tie.Need-with-requires Inv-loop μ-loop
 with-requires c κs = search needs
 
 loop-less : tie.Need-loop-less Inv-loop μ-loop
-loop-less c = pushed-less (c .before .before .before .before .before .before .before .loop .k) _ _ (c .before .before .before .before .before .before .before .loop .inv .few) (c .before .if1 .left) (c .with .ensures)
+loop-less c = let p = c .before .before .before .before in
+    let l = p .before .before .before .loop in
+    pushed-less (l .k) _ _ (l .inv .few) (c .before .if1 .left) (c .with .ensures)
 
 loop-again : tie.Need-loop-again Inv-loop μ-loop
-loop-again c = reading-more _ _ _ _ _ (c .before .before .before .before .before .before .before .loop .inv) _ (c .before .before .before .before .before .before .next-number .ensures) _ _ (c .before .before .before .before .v .given .1) (c .before .if1 .left) _ (c .with .ensures)
+loop-again c = let p = c .before .before .before .before in
+    reading-more _ _ _ _ _ (p .before .before .before .loop .inv) _ (p .before .before .next-number .ensures) _ _ (p .v .given .1) (c .before .if1 .left) _ (c .with .ensures)
 
 pub numbers-spec : {M : Type 1} → statement M
 numbers-spec =

@@ -29,13 +29,15 @@ keyword-requires : tie.Need-keyword-requires
 keyword-requires c κs = search needs
 
 returns-3 : tie.Need-returns-3
-returns-3 c = command-bytes _ _ (c .before .before .before .before .before .before .word-at .ensures) (c .before .before .before .before .before .if1 .left) (c .before .before .before .if2 .left) _ (c .before .keyword .ensures) (c .if3 .taken)
+returns-3 c = let p = c .before .before .before in
+    command-bytes _ _ (p .before .before .before .word-at .ensures) (p .before .before .if1 .left) (p .if2 .left) _ (c .before .keyword .ensures) (c .if3 .taken)
 
 numbers-requires : tie.Need-numbers-requires
 numbers-requires c κs = search needs
 
 returns-4 : tie.Need-returns-4
-returns-4 c = command-numbers _ _ (c .before .before .before .before .before .before .before .word-at .ensures) (c .before .before .before .before .before .before .if1 .left) (c .before .before .before .before .if2 .left) _ (c .before .before .keyword .ensures) (c .before .if3 .left) _ (c .numbers .ensures)
+returns-4 c = let p = c .before .before .before .before in
+    command-numbers _ _ (p .before .before .before .word-at .ensures) (p .before .before .if1 .left) (p .if2 .left) _ (c .before .before .keyword .ensures) (c .before .if3 .left) _ (c .numbers .ensures)
 
 pub parse-spec : {M : Type 1} → statement M
 parse-spec =

@@ -1,4 +1,5 @@
 -- `scripts::number::keyword` meets its contract. Assumes nothing.
+-- The loop's invariant: what is left of the word, after the letters so far, is coded as the whole word is (coded-on, coded-stop).
 use Rattle.scripts.specs.Numbers.{isLetter, coded, keywordOf}
 use lib.ListN.{getD, length, drop}
 use Rattle.loops.proofs.Tests.{both-false}
@@ -37,8 +38,9 @@ returns-2 c = let l = c .before .before .before .before .loop in
 
 returns-3 : tie.Need-returns-3 Inv-loop μ-loop
 unfolding keywordOf
-returns-3 c = let l = c .before .before .before .before .before .loop in
-    let w = c .before .before .before .before .before .before .args .word .now in
+returns-3 c = let p = c .before .before .before .before .before in
+    let l = p .loop in
+    let w = p .before .args .word .now in
     coded-stop (l .k) w (l .i) (omega arith) (rw (le-ltb (l .k) (2 ^ 56) (search needs)) (both-false (isLetter (getD w (l .i) 0)))) ∙ sym (l .inv)
 
 mul-k : tie.Need-mul-k Inv-loop μ-loop
@@ -57,8 +59,9 @@ loop-less : tie.Need-loop-less Inv-loop μ-loop
 loop-less c = search needs
 
 loop-again : tie.Need-loop-again Inv-loop μ-loop
-loop-again c = let l = c .before .before .before .before .before .loop in
-    let w = c .before .before .before .before .before .before .args .word .now in
+loop-again c = let p = c .before .before .before .before .before in
+    let l = p .loop in
+    let w = p .before .args .word .now in
     l .inv ∙ coded-on (l .k) w (l .i) (omega arith) (rw (le-leb 97 (getD w (l .i) 0) (c .before .before .if1 .left), le-leb (getD w (l .i) 0) 122 (c .before .if2 .left), lt-ltb (l .k) (2 ^ 56) (c .if3 .left)))
 
 returns-4 : tie.Need-returns-4 Inv-loop μ-loop

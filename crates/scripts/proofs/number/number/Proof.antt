@@ -25,15 +25,6 @@ enum-told-3 c = search needs
 enum-told-4 : tie.Need-enum-told-4
 enum-told-4 c = search needs
 
-enum-told-5 : tie.Need-enum-told-5
-enum-told-5 c = search needs
-
-enum-told-6 : tie.Need-enum-told-6
-enum-told-6 c = search needs
-
-enum-told-7 : tie.Need-enum-told-7
-enum-told-7 c = search needs
-
 returns : tie.Need-returns
 returns c = number-found _ (λ i. c .before .before .before .before .before .shared-slice-known .given i .fits) _ _ _ (c .before .before .before .before .scanned .ensures) (c .before .before .before .finish .ensures) (c .before .v .given .1)
 
@@ -49,15 +40,6 @@ returns-4 c = number-found _ (λ i. c .before .before .before .before .shared-sl
 returns-5 : tie.Need-returns-5
 returns-5 c = number-found _ (λ i. c .before .before .before .before .shared-slice-known .given i .fits) _ _ _ (c .before .before .before .scanned .ensures) (c .before .before .finish .ensures) (c .enum-told4 .given .1)
 
-returns-6 : tie.Need-returns-6
-returns-6 c = number-found _ (λ i. c .before .before .before .before .shared-slice-known .given i .fits) _ _ _ (c .before .before .before .scanned .ensures) (c .before .before .finish .ensures) (c .enum-told5 .given .1)
-
-returns-7 : tie.Need-returns-7
-returns-7 c = number-found _ (λ i. c .before .before .before .before .shared-slice-known .given i .fits) _ _ _ (c .before .before .before .scanned .ensures) (c .before .before .finish .ensures) (c .enum-told6 .given .1)
-
-returns-8 : tie.Need-returns-8
-returns-8 c = number-found _ (λ i. c .before .before .before .before .shared-slice-known .given i .fits) _ _ _ (c .before .before .before .scanned .ensures) (c .before .before .finish .ensures) (c .enum-told7 .given .1)
-
 pub number-spec : {M : Type 1} → statement M
 number-spec =
     tie.close
@@ -69,14 +51,8 @@ number-spec =
     enum-told-2
     enum-told-3
     enum-told-4
-    enum-told-5
-    enum-told-6
-    enum-told-7
     returns
     returns-2
     returns-3
     returns-4
-    returns-5
-    returns-6
-    returns-7
-    returns-8)
+    returns-5)

@@ -1,6 +1,6 @@
 -- `scripts::number::scanned` meets its contract. Assumes nothing.
 use Rattle.lines.specs.Machine.{rowsOf, opened, scan}
-use Rattle.lines.specs.Words.{endWord, allRows}
+use Rattle.lines.specs.Words.{allRows, code, endText}
 use Rattle.lines.specs.declared.machine.Scan.the-variants.{Start}
 use Rattle.scripts.specs.Numbers.{afterEnd}
 use Rattle.lines.proofs.Runs.{scan-over, scan-on}
@@ -24,7 +24,7 @@ sub-room c = search needs
 
 returns : tie.Need-returns Inv-loop μ-loop
 unfolding afterEnd
-returns c = sym (scan-over allRows (c .before .before .args .word .now) 16 (Start (opened endWord 0)) (omega arith))
+returns c = sym (scan-over allRows (c .before .before .args .word .now) 16 (Start (opened (code 0 endText) 0)) (omega arith))
 
 loop-holds : tie.Need-loop-holds Inv-loop μ-loop
 unfolding afterEnd
@@ -50,8 +50,9 @@ loop-less c = search needs
 
 loop-again : tie.Need-loop-again Inv-loop μ-loop
 unfolding rowsOf
-loop-again c = let l = c .before .before .before .before .loop in
-    let w = c .before .before .before .before .before .before .before .args .word .now in
+loop-again c = let p = c .before .before .before .before in
+    let l = p .loop in
+    let w = p .before .before .before .args .word .now in
     (omega arith, omega arith, l .inv .2 ∙ rw (c .within .ensures, c .before .advance .ensures) (scan-on allRows (l .room) (l .s) (l .i) (length w) w (omega arith) (omega arith) (omega arith)))
 
 returns-2 : tie.Need-returns-2 Inv-loop μ-loop

@@ -64,10 +64,10 @@ returns-3 : tie.Need-returns-3 Inv-loop μ-loop
 returns-3 c = search needs
 
 loop-less : tie.Need-loop-less Inv-loop μ-loop
-loop-less c = let r = c .before .before .before .before .before .before .ask in let m = more-within _ (length (r .last .0)) _ _ (c .before .before .k .given .1) (r .ensures) in search (needs, m, r .kept .0)
+loop-less c = let k = c .before .before in let r = k .before .before .before .before .ask in let m = more-within _ (length (r .last .0)) _ _ (k .k .given .1) (r .ensures) in search (needs, m, r .kept .0)
 
 loop-again : tie.Need-loop-again Inv-loop μ-loop
-loop-again c = let r = c .before .before .before .before .before .before .ask in let m = more-within _ (length (r .last .0)) _ _ (c .before .before .k .given .1) (r .ensures) in search (needs, m, r .kept .0)
+loop-again c = let k = c .before .before in let r = k .before .before .before .before .ask in let m = more-within _ (length (r .last .0)) _ _ (k .k .given .1) (r .ensures) in search (needs, m, r .kept .0)
 
 enum-told : tie.Need-enum-told Inv-loop μ-loop
 enum-told c = search needs

@@ -11,6 +11,13 @@ Inv-loop script₀ out₀ img₀ log₀ ops₀ d₀ put₀ line₀ what₀ f₀ 
 abbrev μ-loop : tie.MeasureT-loop
 μ-loop script₀ out₀ img₀ log₀ ops₀ d₀ put₀ line₀ what₀ f₀ script out img log ops d put line what f = 1048578 - f .at
 
+-- a turn's test, from its step; its step, from its end
+abbrev test : tie.After-step Inv-loop μ-loop → tie.Then2 Inv-loop μ-loop
+test c = c .before .before .before .before .before .before
+
+abbrev stepped : tie.After-next-arg Inv-loop μ-loop → tie.After-step Inv-loop μ-loop
+stepped c = c .before .before .before .before .before .before .before .before .before .before .before .before .before
+
 words-requires : tie.Need-words-requires Inv-loop μ-loop
 words-requires c κs = search needs
 
@@ -33,7 +40,11 @@ first-requires : tie.Need-first-requires Inv-loop μ-loop
 first-requires c κs = search needs
 
 loop-holds : tie.Need-loop-holds Inv-loop μ-loop
-loop-holds c = held-first _ _ _ _ _ (c .before .before .before .before .before .before .before .before .before .before .before .words .ensures) (search (needs, c .before .before .before .before .before .before .before .before .before .before .bytes .ensures, c .before .before .before .before .before .before .before .begin .kept)) (search (needs, c .before .before .first .kept, c .before .before .before .before .before .before .before .before .before .before .before .before .before .pre)) (c .before .before .before .before .before .before .before .begin .ensures) (c .before .before .first .ensures .1)
+loop-holds c =
+    let f = c .before .before in
+    let b = f .before .before .before .before .before in
+    let w = b .before .before .before .before in
+    held-first _ _ _ _ _ (w .words .ensures) (search (needs, b .before .before .before .bytes .ensures, b .begin .kept)) (search (needs, f .first .kept, w .before .before .pre)) (b .begin .ensures) (f .first .ensures .1)
 
 sub-text : tie.Need-sub-text Inv-loop μ-loop
 sub-text c = let h = c .before .before .loop .inv in search (needs, h .fed)
@@ -48,13 +59,13 @@ asked-requires : tie.Need-asked-requires Inv-loop μ-loop
 asked-requires c κs = search needs
 
 slice-aggregate-step : tie.Need-slice-aggregate-step Inv-loop μ-loop
-slice-aggregate-step c = c .before .before .before .before .before .before .loop .inv .words
+slice-aggregate-step c = let t = c .before .before .before .before in t .before .before .loop .inv .words
 
 slice-aggregate-step-2 : tie.Need-slice-aggregate-step-2 Inv-loop μ-loop
-slice-aggregate-step-2 c = c .before .before .before .before .before .before .before .loop .inv .bytes
+slice-aggregate-step-2 c = let t = c .before .before .before .before .before in t .before .before .loop .inv .bytes
 
 step-requires : tie.Need-step-requires Inv-loop μ-loop
-step-requires c κs = let h = c .before .before .before .before .before .before .before .loop .inv in search (needs, h, h .fed)
+step-requires c κs = let t = c .before .before .before .before .before in let h = t .before .before .loop .inv in search (needs, h, h .fed)
 
 enum-known-o : tie.Need-enum-known-o Inv-loop μ-loop
 enum-known-o c = search needs
@@ -69,10 +80,11 @@ is-what-requires : tie.Need-is-what-requires Inv-loop μ-loop
 is-what-requires c κs = search needs
 
 add-line : tie.Need-add-line Inv-loop μ-loop
-add-line c = let h = c .before .before .before .before .before .before .before .before .before .before .before .before .before .loop .inv in search (needs, h, h .fed)
+add-line c = let h = test (c .before .before .before .before .before) .before .before .loop .inv in search (needs, h, h .fed)
 
 say-requires : tie.Need-say-requires Inv-loop μ-loop
-say-requires c κs = lent-next _ _ _ _ _ _ (c .before .before .before .before .before .before .before .before .before .before .before .before .before .before .before .before .loop .inv) _ _ _ _ _ _ (c .before .before .before .before .before .before .before .before .step .ensures) (search needs) (search needs)
+say-requires c κs = let s = c .before .before .before .before .before .before .before .before in
+    lent-next _ _ _ _ _ _ (test s .before .before .loop .inv) _ _ _ _ _ _ (s .step .ensures) (search needs) (search needs)
 
 settle-requires : tie.Need-settle-requires Inv-loop μ-loop
 settle-requires c κs = search needs
@@ -81,13 +93,17 @@ noted-requires : tie.Need-noted-requires Inv-loop μ-loop
 noted-requires c κs = search needs
 
 next-requires : tie.Need-next-requires Inv-loop μ-loop
-next-requires c κs = let h = c .before .before .before .before .before .before .before .before .before .before .before .before .before .before .before .before .before .before .before .before .before .loop .inv in (h .fed, h .space)
+next-requires c κs = let h = test (stepped c) .before .before .loop .inv in (h .fed, h .space)
 
 loop-less : tie.Need-loop-less Inv-loop μ-loop
-loop-less c = let h = c .before .before .before .before .before .before .before .before .before .before .before .before .before .before .before .before .before .before .before .before .before .before .before .before .loop .inv in search (needs, h .fed, c .before .before .before .before .before .before .before .before .before .before .before .before .before .before .before .before .before .before .before .before .before .before .if2, c .before .before .next .ensures)
+loop-less c = let t = test (stepped (c .before .before .before)) in let h = t .before .before .loop .inv in search (needs, h .fed, t .if2, c .before .before .next .ensures)
 
 loop-again : tie.Need-loop-again Inv-loop μ-loop
-loop-again c = let h = c .before .before .before .before .before .before .before .before .before .before .before .before .before .before .before .before .before .before .before .before .before .before .before .before .loop .inv in held-next _ _ _ _ _ _ h _ _ _ _ _ _ (c .before .before .before .before .before .before .before .before .before .before .before .before .before .before .before .before .step .ensures) (search needs) (search needs) _ _ (search (needs, h .space, c .before .before .next .kept)) (c .before .before .before .before .before .before .before .before .before .before .before .before .before .before .before .before .before .before .before .before .before .before .if2 .taken) (c .before .before .next .ensures)
+loop-again c =
+    let s = stepped (c .before .before .before) in
+    let t = test s in
+    let h = t .before .before .loop .inv in
+    held-next _ _ _ _ _ _ h _ _ _ _ _ _ (s .step .ensures) (search needs) (search needs) _ _ (search (needs, h .space, c .before .before .next .kept)) (t .if2 .taken) (c .before .before .next .ensures)
 
 flush-requires : tie.Need-flush-requires Inv-loop μ-loop
 flush-requires c κs = search needs

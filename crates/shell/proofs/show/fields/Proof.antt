@@ -1,26 +1,23 @@
 -- `shell::show::fields` meets its contract. Assumes nothing.
-use Prim.Native.Nat.{_-_, _≤_}
+use Prim.Native.Nat.{_*_, _-_, _≤_, _<_}
+use Rattle.model.specs.Image.{field}
+use Rattle.image.specs.Within.{Within}
+use Rattle.image.proofs.Within.{has-word}
 use borrow.Author.Needs.{needs}
 use Rattle.shell.proofs.show.fields.Statement.{statement}
 use Rattle.shell.proofs.show.fields.Tie as tie
 
 abbrev Inv-loop : tie.InvT-loop
-Inv-loop out₀ at words from n₀ k₀ out n k = k ≤ 6
+Inv-loop out₀ at img p s j n₀ k₀ out n k = (k ≤ 4) × Within p s img × (j < p * s)
 
 abbrev μ-loop : tie.MeasureT-loop
-μ-loop out₀ at words from n₀ k₀ out n k = 6 - k
+μ-loop out₀ at img p s j n₀ k₀ out n k = 4 - k
 
 loop-holds : tie.Need-loop-holds Inv-loop μ-loop
 loop-holds c = search needs
 
-add-target-of : tie.Need-add-target-of Inv-loop μ-loop
-add-target-of c = search needs
-
-mul-target-of : tie.Need-mul-target-of Inv-loop μ-loop
-mul-target-of c = search needs
-
-shared-slice-read-target-of : tie.Need-shared-slice-read-target-of Inv-loop μ-loop
-shared-slice-read-target-of c = search needs
+field-at-requires : tie.Need-field-at-requires Inv-loop μ-loop
+field-at-requires c κs = let l = c .before .loop in has-word _ _ _ (l .inv .1) (field _ (l .k)) (l .inv .2, search needs)
 
 target-of-requires : tie.Need-target-of-requires Inv-loop μ-loop
 target-of-requires c κs = search needs
@@ -47,9 +44,7 @@ fields-spec =
     Inv-loop
     μ-loop
     loop-holds
-    add-target-of
-    mul-target-of
-    shared-slice-read-target-of
+    field-at-requires
     target-of-requires
     target-requires
     add-k

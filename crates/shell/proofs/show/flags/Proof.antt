@@ -1,29 +1,29 @@
 -- `shell::show::flags` meets its contract. Assumes nothing.
 use Prim.Native.Nat.{_-_, _≤_}
+use Rattle.model.specs.Image.{flag}
+use Rattle.image.specs.Within.{Within}
+use Rattle.image.proofs.Within.{has-word}
 use borrow.Author.Needs.{needs}
 use Rattle.shell.proofs.show.flags.Statement.{statement}
 use Rattle.shell.proofs.show.flags.Tie as tie
 
 abbrev Inv-loop : tie.InvT-loop
-Inv-loop out₀ at words n₀ p₀ out n p = p ≤ 16
+Inv-loop out₀ at img p s n₀ q₀ out n q = (q ≤ 16) × Within p s img
 
 abbrev μ-loop : tie.MeasureT-loop
-μ-loop out₀ at words n₀ p₀ out n p = 16 - p
+μ-loop out₀ at img p s n₀ q₀ out n q = 16 - q
 
 loop-holds : tie.Need-loop-holds Inv-loop μ-loop
 loop-holds c = search needs
 
-add-word : tie.Need-add-word Inv-loop μ-loop
-add-word c = search needs
-
-word-requires : tie.Need-word-requires Inv-loop μ-loop
-word-requires c κs = search needs
+flag-at-requires : tie.Need-flag-at-requires Inv-loop μ-loop
+flag-at-requires c κs = let l = c .before .loop in has-word _ _ _ (l .inv .1) (flag (l .q)) (search needs)
 
 clean-requires : tie.Need-clean-requires Inv-loop μ-loop
 clean-requires c κs = search needs
 
-add-p : tie.Need-add-p Inv-loop μ-loop
-add-p c = search needs
+add-q : tie.Need-add-q Inv-loop μ-loop
+add-q c = search needs
 
 loop-less : tie.Need-loop-less Inv-loop μ-loop
 loop-less c = search needs
@@ -41,10 +41,9 @@ flags-spec =
     Inv-loop
     μ-loop
     loop-holds
-    add-word
-    word-requires
+    flag-at-requires
     clean-requires
-    add-p
+    add-q
     loop-less
     loop-again
     returns)

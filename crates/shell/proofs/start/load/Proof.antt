@@ -26,10 +26,10 @@ array-share-prefix-space : tie.Need-array-share-prefix-space
 array-share-prefix-space c = search needs
 
 slice-aggregate-lend : tie.Need-slice-aggregate-lend
-slice-aggregate-lend c = whole-counts _ _ _ (c .before .before .before .n .given .1) (c .before .before .before .before .before .before .read-all .ensures) .1
+slice-aggregate-lend c = let n = c .before .before .before in whole-counts _ _ _ (n .n .given .1) (n .before .before .before .read-all .ensures) .1
 
 lend-requires : tie.Need-lend-requires
-lend-requires c κs = let w = whole-counts _ _ _ (c .before .before .before .before .n .given .1) (c .before .before .before .before .before .before .before .read-all .ensures) in search (needs, w)
+lend-requires c κs = let n = c .before .before .before .before in let w = whole-counts _ _ _ (n .n .given .1) (n .before .before .before .read-all .ensures) in search (needs, w)
 
 enum-told : tie.Need-enum-told
 enum-told c = search needs

@@ -1,0 +1,193 @@
+-- The starred numbers, in a single table covered by one proof: it computes. Two partitions of four slots.
+-- Assumes nothing.
+use Prim.Native.Nat.{ℕ, _+_, _-_, _≤_, _<_}
+use native.Mathlib.Omega.{arith}
+use mathlib.Core.Path.{_≡_, refl, sym, ap, _∙_}
+use mathlib.Core.Bool.{Bool, true, false, true≢false}
+use mathlib.Core.List.{List, [], _∷_, _++_}
+use lib.Dec.{eqb}
+use lib.ListN.{take, replicate}
+use borrow.Author.Tests.{eqb-true}
+use Rattle.loops.specs.Cases.{case, from-to, Agree}
+use Rattle.loops.specs.Loop.{both, every}
+use Rattle.loops.proofs.Tests.{both-true}
+use Rattle.loops.proofs.Loops.{every-true}
+use Rattle.kinds.specs.Names.{partition, named, wordOf}
+use Rattle.kinds.specs.Operations.{new, set-to, root-to, unroot, three}
+use Rattle.kinds.specs.declared.Target.the-variants.{Object}
+use Rattle.kinds.specs.declared.Single.the-variants.{Close, Local}
+use Rattle.kinds.specs.declared.Verdict.{Verdict}
+use Rattle.kinds.specs.declared.Verdict.the-variants.{Accepted, Refused}
+use Rattle.lines.proofs.Computing.{reading, printing}
+use Rattle.model.proofs.Computing.{imaging, looping, acting, judging, sounding, listing}
+use Rattle.lines.specs.declared.line.Line.the-variants.{Operation, Single}
+use Rattle.lines.specs.Print.{print}
+use Rattle.model.specs.Image.{Image, state, addr, lengthOf, size, blank, place}
+use Rattle.model.specs.Acts.{single, perform}
+use Rattle.model.specs.Outlist.{outlist}
+use Rattle.writer.specs.Record.{rule, opLines, recordOf, headingOf}
+use Rattle.writer.specs.Write.{splice}
+use Rattle.journal.specs.Recover.{act, headed, feed, feedAll, Recovered, refusal, recovery, answer, recoverOf}
+use Rattle.catalogue.specs.Call as call
+use Rattle.catalogue.specs.Call.{judgeAct, judgeCommit, judgeForeign, formatOf, callBy, commitOf, listingOf}
+use Rattle.promises.specs.Calls.{Call}
+use Rattle.promises.specs.Paper.{paperLog, threeObjects, done, opened, freed, closed, refused, session, committing, opening, closing, tracing, localizing}
+
+-- What computes here, by subject (see model/proofs/Computing.antt)
+logging : Unit {0}
+unfolding recordOf headingOf splice
+logging = tt
+
+recovering : Unit {0}
+unfolding act headed feed feedAll answer recoverOf
+recovering = tt
+
+performing : Unit {0}
+unfolding call.perform judgeAct judgeCommit judgeForeign formatOf callBy commitOf listingOf
+performing = tt
+
+-- the test that a recovery is accepted, keeps n bytes and leaves y
+sameWords : List ℕ → List ℕ → Bool
+sameWords [] [] = true
+sameWords [] (y ∷ ys) = false
+sameWords (x ∷ xs) [] = false
+sameWords (x ∷ xs) (y ∷ ys) = both (eqb x y) (sameWords xs ys)
+
+isAccepted : Verdict → Bool
+isAccepted Accepted = true
+isAccepted (Refused r) = false
+
+gives : ℕ → Image → Recovered → Bool
+gives n y r = both (isAccepted (r .verdict)) (both (eqb (r .kept) n) (sameWords (r .image) y))
+
+same-words : (xs ys : List ℕ) → sameWords xs ys ≡ true → xs ≡ ys
+unfolding sameWords
+same-words [] [] e = refl
+same-words [] (y ∷ ys) e = absurd (true≢false (sym e))
+same-words (x ∷ xs) [] e = absurd (true≢false (sym e))
+same-words (x ∷ xs) (y ∷ ys) e =
+    let b = both-true (eqb x y) (sameWords xs ys) e in
+    ap (λ (z : ℕ). z ∷ xs) (eqb-true x y (b .0)) ∙ ap (λ (zs : List ℕ). y ∷ zs) (same-words xs ys (b .1))
+
+is-accepted : (v : Verdict) → isAccepted v ≡ true → v ≡ Accepted
+unfolding isAccepted
+is-accepted Accepted e = refl
+is-accepted (Refused r) e = absurd (true≢false (sym e))
+
+gives-it : (n : ℕ) (y : Image) (r : Recovered) → gives n y r ≡ true → r ≡ recovery n y
+unfolding gives
+gives-it n y r e =
+    let a = both-true (isAccepted (r .verdict)) _ e in
+    let b = both-true (eqb (r .kept) n) _ (a .1) in
+    let v = is-accepted (r .verdict) (a .0) in
+    let k = eqb-true (r .kept) n (b .0) in
+    let s = same-words (r .image) y (b .1) in
+    λ i. record { verdict = v i; kept = k i; image = s i }
+
+-- every cut from 11 to 88 bytes, under a heading of either edition, computed
+cuts : every 2 (λ e. every 78 (λ i. gives 11 (blank 2 4) (recoverOf (take (11 + i) (paperLog (e + 1))) 93))) ≡ true
+unfolding sameWords isAccepted gives reading imaging looping acting judging recovering
+cuts = refl
+
+cut-at : (e : ℕ) → e < 2 → (k : ℕ) → 11 ≤ k → k ≤ 88 → recoverOf (take k (paperLog (e + 1))) 93 ≡ recovery 11 (blank 2 4)
+cut-at e l k lo hi =
+    let c = every-true 2 (λ e. every 78 (λ i. gives 11 (blank 2 4) (recoverOf (take (11 + i) (paperLog (e + 1))) 93))) cuts e l in
+    let q : 11 + (k - 11) ≡ k = omega arith in
+    gives-it 11 (blank 2 4) _ (rw q at (every-true 78 (λ i. gives 11 (blank 2 4) (recoverOf (take (11 + i) (paperLog (e + 1))) 93)) c (k - 11) (omega arith)))
+
+c1 : (k : ℕ) → 11 ≤ k → k ≤ 88 → recoverOf (take k (paperLog 1)) 93 ≡ recovery 11 (blank 2 4)
+c1 = cut-at 0 (omega arith)
+
+c2 : (k : ℕ) → 11 ≤ k → k ≤ 88 → recoverOf (take k (paperLog 2)) 93 ≡ recovery 11 (blank 2 4)
+c2 = cut-at 1 (omega arith)
+
+-- a phase of four traces
+abbrev four-traces : List Call
+four-traces = opening ∷ tracing 1 ∷ tracing 0 ∷ tracing 1 ∷ tracing 0 ∷ closing ∷ []
+
+-- root to (0,0), (1,0) unreferenced; both partitions traced, then (0,0) refers to (1,0)
+abbrev late : List Call
+late = committing (new 0 0 1 ∷ new 1 0 2 ∷ root-to 0 0 0 ∷ []) ∷ opening ∷ tracing 0 ∷ tracing 1 ∷ committing (set-to 0 0 0 1 0 ∷ []) ∷ []
+
+-- two roots on one object
+abbrev two-roots : Call
+two-roots = committing (new 0 0 1 ∷ root-to 0 0 0 ∷ root-to 1 0 0 ∷ [])
+
+-- a root on (0,0); in its partition a cycle of (0,1) and (0,2), and (0,3), which only (1,0) names, itself unreferenced
+abbrev garbage : Call
+garbage =
+    committing
+    (new 0 0 1 ∷ new 0 1 2 ∷ new 0 2 3 ∷ new 0 3 4 ∷ new 1 0 5 ∷ root-to 0 0 0 ∷ set-to 0 1 0 0 2 ∷ set-to 0 2 0 0 1 ∷ set-to 1 0 0 0 3 ∷ [])
+
+-- the log of a formatting, and a later heading of edition e
+abbrev headings : ℕ → List ℕ
+headings e = headingOf (rule 2 2 4) ++ headingOf (rule e 2 4)
+
+-- a line of 21 bytes: `new` 4294967295 4294 0
+abbrev overlong : List ℕ
+overlong = print (Operation (new 4294967295 4294 0))
+
+-- THE STARRED NUMBERS. The first reply of a session is its formatting's.
+pub table :
+    Agree
+    -- P = 2, S = 4: 93 words; object (1,0) begins at 65, its name is 65
+    (case (size 2 4) 93 ∷ case (lengthOf (session [] .image)) 93 ∷
+    case (addr (state (place 4 (named 1 0)))) 65 ∷ case (wordOf (Object (named 1 0))) 65 ∷
+    -- the paper's log, which these calls write, the bytes after it left as they were: allowance 4, count 4, 0 freed
+    case (session (committing three ∷ four-traces) .log) (paperLog 2 ++ replicate 68 255) ∷
+    case (session (committing three ∷ four-traces) .replies) (done ∷ done ∷ opened 4 ∷ done ∷ done ∷ done ∷ done ∷ closed 4 0 ∷ []) ∷
+    -- with an unreferenced (1,1): allowance 5, 1 freed
+    case (session (committing (three ++ (new 1 1 40 ∷ [])) ∷ four-traces) .replies)
+    (done ∷ done ∷ opened 5 ∷ done ∷ done ∷ done ∷ done ∷ closed 4 1 ∷ []) ∷
+    -- with a cycle that no root reaches: 2 freed
+    case (session (committing (three ++ (new 0 2 1 ∷ new 1 2 2 ∷ set-to 0 2 0 1 2 ∷ set-to 1 2 0 0 2 ∷ [])) ∷ four-traces) .replies)
+    (done ∷ done ∷ opened 6 ∷ done ∷ done ∷ done ∷ done ∷ closed 4 2 ∷ []) ∷
+    -- a reference stored after the traces: close answers 14 and 1; then trace 1, close: count 3, 0 freed
+    case (session (late ++ (closing ∷ tracing 1 ∷ closing ∷ [])) .replies)
+    (done ∷ done ∷ opened 3 ∷ done ∷ done ∷ done ∷ refused 14 1 ∷ done ∷ closed 3 0 ∷ []) ∷
+    -- two roots on one object, no other: allowance P
+    case (session (two-roots ∷ opening ∷ tracing 0 ∷ tracing 1 ∷ closing ∷ []) .replies) (done ∷ done ∷ opened 2 ∷ done ∷ done ∷ closed 2 0 ∷ []) ∷
+    -- the last root goes in a phase: close 12
+    case (session (committing three ∷ opening ∷ committing (unroot 0 ∷ []) ∷ closing ∷ []) .replies)
+    (done ∷ done ∷ opened 4 ∷ done ∷ refused 12 0 ∷ []) ∷
+    -- open on an empty heap: 12
+    case (session (opening ∷ []) .replies) (done ∷ refused 12 0 ∷ []) ∷
+    -- trace twice running: 13
+    case (session (committing three ∷ opening ∷ tracing 0 ∷ tracing 0 ∷ []) .replies) (done ∷ done ∷ opened 4 ∷ done ∷ refused 13 0 ∷ []) ∷
+    -- our own: a local collection frees a cycle inside its partition and keeps what only an unreferenced object of another names, which goes after that one
+    case (session (garbage ∷ localizing 0 ∷ localizing 1 ∷ localizing 0 ∷ []) .replies) (done ∷ done ∷ freed 2 ∷ freed 1 ∷ freed 1 ∷ []) ∷
+    -- and in a phase: allowance 6, 2 freed; the close frees the other 2
+    case (session (garbage ∷ opening ∷ localizing 0 ∷ tracing 0 ∷ tracing 1 ∷ closing ∷ []) .replies)
+    (done ∷ done ∷ opened 6 ∷ freed 2 ∷ done ∷ done ∷ closed 2 2 ∷ []) ∷
+    -- on an empty heap: 12, and of partition 2: 7
+    case (session (localizing 0 ∷ localizing 2 ∷ []) .replies) (done ∷ refused 12 0 ∷ refused 7 0 ∷ []) ∷
+    -- the outlist of partition 1 is the name of (0,3)
+    case ((listingOf (session (garbage ∷ []) .image) (partition 1)) .outlist) (record { number = 1; names = 4 ∷ replicate 255 0 }) ∷
+    -- a later heading is 5 where its edition exists, else 4, and 3 as the first line
+    case (recoverOf (headings 1) 93) (refusal 93 5 2) ∷ case (recoverOf (headings 2) 93) (refusal 93 5 2) ∷
+    case (recoverOf (headings 3) 93) (refusal 93 4 2) ∷ case (recoverOf (headingOf (rule 3 2 4)) 93) (refusal 93 3 1) ∷
+    -- a local line within a transaction: 5; else it is good under a heading of either edition
+    case (recoverOf (headingOf (rule 2 2 4) ++ (opLines (new 0 0 1 ∷ []) ++ recordOf (single (Local (partition 0))))) 93) (refusal 93 5 3) ∷
+    case (recoverOf (paperLog 1 ++ recordOf (single (Local (partition 0)))) 93) (recovery 140 threeObjects) ∷
+    case (recoverOf (paperLog 2 ++ recordOf (single (Local (partition 0)))) 93) (recovery 140 threeObjects) ∷
+    -- a tail under a heading of either edition: a whole line without its end, and what a line of 20 bytes begins with, are dropped; a digit more, other text, and
+    -- the beginning of a heading are 4
+    case (recoverOf (headingOf (rule 1 2 4) ++ print (Single Close)) 93) (recovery 11 (blank 2 4)) ∷
+    case (recoverOf (headingOf (rule 2 2 4) ++ take 18 overlong) 93) (recovery 11 (blank 2 4)) ∷
+    case (recoverOf (headingOf (rule 2 2 4) ++ take 19 overlong) 93) (refusal 93 4 2) ∷
+    case (recoverOf (paperLog 1 ++ replicate 20 120) 93) (refusal 93 4 15) ∷
+    case (recoverOf (paperLog 2 ++ take 2 (paperLog 2)) 93) (refusal 93 4 15) ∷
+    -- the paper's log, of edition 1 and of 2, cut at 10 bytes: 3 and line 1, zeros
+    case (recoverOf (take 10 (paperLog 1)) 93) (refusal 93 3 1) ∷ case (recoverOf (take 10 (paperLog 2)) 93) (refusal 93 3 1) ∷
+    -- at 11 to 88: empty heap, kept 11
+    from-to 11 88 (λ k. recoverOf (take k (paperLog 1)) 93) (recovery 11 (blank 2 4)) ∷
+    from-to 11 88 (λ k. recoverOf (take k (paperLog 2)) 93) (recovery 11 (blank 2 4)) ∷
+    -- at 89: three objects, kept 89
+    case (recoverOf (take 89 (paperLog 1)) 93) (recovery 89 threeObjects) ∷
+    case (recoverOf (take 89 (paperLog 2)) 93) (recovery 89 threeObjects) ∷
+    -- whole: kept 132, the three objects again
+    case (recoverOf (paperLog 1) 93) (recovery 132 threeObjects) ∷ case (recoverOf (paperLog 2) 93) (recovery 132 threeObjects) ∷
+    [])
+unfolding reading printing logging imaging looping acting judging recovering sounding listing performing
+table =
+    (refl, (refl, (refl, (refl, (refl, (refl, (refl, (refl, (refl, (refl, (refl, (refl, (refl, (refl, (refl, (refl, (refl, (refl, (refl, (refl, (refl, (refl, (refl, (refl, (refl, (refl, (refl, (refl, (refl, (refl, (refl, (c1, (c2, (refl, (refl, (refl, (refl, tt)))))))))))))))))))))))))))))))))))))
