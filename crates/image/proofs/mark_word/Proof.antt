@@ -1,7 +1,7 @@
 -- `image::mark_word` meets its contract. Assumes nothing.
 -- What is read and put goes by keys; an unmarked object gets its mark (`marks`).
 use Prim.Native.Nat.{ℕ, _*_, _<_}
-use mathlib.Core.Path.{_≡_, sym, ap, subst, _∙_}
+use mathlib.Core.Path.{_≡_, refl, sym, ap, subst, _∙_}
 use mathlib.Core.Logic.{_≢_}
 use borrow.Author.Tests.{eq-eqb, ne-eqb}
 use Rattle.model.specs.Image.{Image, state, flag, get, put, placeOf, partOf}
@@ -62,9 +62,10 @@ same-length-2 : tie.Need-same-length-2
 same-length-2 c = search needs
 
 -- an unmarked object gets its mark
-marks : (S w j q : ℕ) (x : Image) → w ≢ 0 → j ≡ placeOf S w → q ≡ partOf S j → get x (state j) ≡ 1 → put (put x (flag q) 0) (state j) 2 ≡ markWord S x w
+marks : (S w j q u v : ℕ) (x : Image) → u ≡ 0 → v ≡ 2 → w ≢ 0 → j ≡ placeOf S w → q ≡ partOf S j → get x (state j) ≡ 1
+    → put (put x (flag q) u) (state j) v ≡ markWord S x w
 unfolding markWord mark
-marks S w j q x some at part one = rw (part, ne-eqb w 0 some, ← at, eq-eqb _ _ one)
+marks S w j q u v x down two some at part one = rw (down, two, part, ne-eqb w 0 some, ← at, eq-eqb _ _ one)
 
 returns-3 : tie.Need-returns-3
 returns-3 c =
@@ -72,8 +73,8 @@ returns-3 c =
     let parted = flagged .before .before in
     let at = named parted in
     let tested = parted .before .before in
-    c .before .before .put-state .ensures ∙ ap (λ (z : Image). put z (state (at .place-of .result)) 2) (flagged .put-flag .ensures)
-    ∙ marks _ _ _ _ _ (at .before .if1 .left) (at .place-of .ensures) (part-is parted) (sym (tested .state-at .ensures) ∙ parted .before .if2 .left)
+    rw (c .before .before .put-state .ensures, flagged .put-flag .ensures)
+    (marks _ _ _ _ _ _ _ refl refl (at .before .if1 .left) (at .place-of .ensures) (part-is parted) (sym (tested .state-at .ensures) ∙ parted .before .if2 .left))
 
 pub mark-word-spec : {M : Type 1} → statement M
 mark-word-spec =
