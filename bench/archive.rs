@@ -34,6 +34,8 @@ pub trait Side {
     fn trace(&self, img: &mut [u32], t: u32, log: &mut [u8], at: usize) -> Result<usize, Refusal>;
     fn close(&self, img: &mut [u32], log: &mut [u8], at: usize) -> Result<Closed, Refusal>;
     fn local(&self, img: &mut [u32], t: u32, log: &mut [u8], at: usize) -> Result<Freed, Refusal>;
+    fn hold(&self, img: &mut [u32], h: u32, n: Name, log: &mut [u8], at: usize) -> Result<usize, Refusal>;
+    fn drop(&self, img: &mut [u32], h: u32, log: &mut [u8], at: usize) -> Result<usize, Refusal>;
     fn recover(&self, img: &mut [u32], log: &[u8]) -> Result<usize, Refusal>;
     fn read(&self, img: &[u32], n: Name) -> Result<Object, Refusal>;
     fn ask(&self, img: &[u32], n: Name) -> Result<bool, Refusal>;
@@ -64,6 +66,12 @@ impl Side for Rust {
     fn local(&self, img: &mut [u32], t: u32, log: &mut [u8], at: usize) -> Result<Freed, Refusal> {
         catalogue::local(img, t, log, at)
     }
+    fn hold(&self, img: &mut [u32], h: u32, n: Name, log: &mut [u8], at: usize) -> Result<usize, Refusal> {
+        catalogue::hold(img, h, n, log, at)
+    }
+    fn drop(&self, img: &mut [u32], h: u32, log: &mut [u8], at: usize) -> Result<usize, Refusal> {
+        catalogue::drop(img, h, log, at)
+    }
     fn recover(&self, img: &mut [u32], log: &[u8]) -> Result<usize, Refusal> {
         catalogue::recover(img, log)
     }
@@ -82,7 +90,7 @@ type Words = *mut u32;
 type Bytes = *mut u8;
 type Out<T> = *mut T;
 
-/// The ten functions of an archive, as bindings/c/heidrunok.h has them.
+/// The twelve functions of an archive, as bindings/c/heidrunok.h has them.
 pub struct Archive {
     name: &'static str,
     format: unsafe extern "C" fn(Words, usize, u32, u32, Bytes, usize, usize, Out<usize>, Out<usize>) -> u32,
@@ -91,6 +99,8 @@ pub struct Archive {
     trace: unsafe extern "C" fn(Words, usize, u32, Bytes, usize, usize, Out<usize>, Out<usize>) -> u32,
     close: unsafe extern "C" fn(Words, usize, Bytes, usize, usize, Out<usize>, Out<u32>, Out<usize>, Out<usize>) -> u32,
     local: unsafe extern "C" fn(Words, usize, u32, Bytes, usize, usize, Out<usize>, Out<usize>, Out<usize>) -> u32,
+    hold: unsafe extern "C" fn(Words, usize, u32, u32, u32, Bytes, usize, usize, Out<usize>, Out<usize>) -> u32,
+    drop: unsafe extern "C" fn(Words, usize, u32, Bytes, usize, usize, Out<usize>, Out<usize>) -> u32,
     recover: unsafe extern "C" fn(Words, usize, *const u8, usize, Out<usize>, Out<usize>) -> u32,
     read: unsafe extern "C" fn(*const u32, usize, u32, u32, Out<u32>, Out<[u32; 4]>) -> u32,
     ask: unsafe extern "C" fn(*const u32, usize, u32, u32, Out<bool>) -> u32,
@@ -98,7 +108,8 @@ pub struct Archive {
 }
 
 macro_rules! archive {
-    ($name:literal, $format:ident $commit:ident $open:ident $trace:ident $close:ident $local:ident $recover:ident $read:ident $ask:ident $outlist:ident) => {{
+    ($name:literal, $format:ident $commit:ident $open:ident $trace:ident $close:ident $local:ident $hold:ident $drop:ident $recover:ident
+     $read:ident $ask:ident $outlist:ident) => {{
         extern "C" {
             fn $format(i: Words, w: usize, p: u32, s: u32, l: Bytes, b: usize, at: usize, n: Out<usize>, x: Out<usize>) -> u32;
             fn $commit(
@@ -116,6 +127,8 @@ macro_rules! archive {
             fn $trace(i: Words, w: usize, t: u32, l: Bytes, b: usize, at: usize, n: Out<usize>, x: Out<usize>) -> u32;
             fn $close(i: Words, w: usize, l: Bytes, b: usize, at: usize, n: Out<usize>, c: Out<u32>, f: Out<usize>, x: Out<usize>) -> u32;
             fn $local(i: Words, w: usize, t: u32, l: Bytes, b: usize, at: usize, n: Out<usize>, f: Out<usize>, x: Out<usize>) -> u32;
+            fn $hold(i: Words, w: usize, h: u32, p: u32, s: u32, l: Bytes, b: usize, at: usize, n: Out<usize>, x: Out<usize>) -> u32;
+            fn $drop(i: Words, w: usize, h: u32, l: Bytes, b: usize, at: usize, n: Out<usize>, x: Out<usize>) -> u32;
             fn $recover(i: Words, w: usize, l: *const u8, b: usize, n: Out<usize>, x: Out<usize>) -> u32;
             fn $read(i: *const u32, w: usize, p: u32, s: u32, v: Out<u32>, f: Out<[u32; 4]>) -> u32;
             fn $ask(i: *const u32, w: usize, p: u32, s: u32, y: Out<bool>) -> u32;
@@ -129,6 +142,8 @@ macro_rules! archive {
             trace: $trace,
             close: $close,
             local: $local,
+            hold: $hold,
+            drop: $drop,
             recover: $recover,
             read: $read,
             ask: $ask,
@@ -139,15 +154,15 @@ macro_rules! archive {
 
 const NOW: Archive = archive!(
     "now",
-    heidrunok_format heidrunok_commit heidrunok_open heidrunok_trace heidrunok_close
-    heidrunok_local heidrunok_recover heidrunok_read heidrunok_ask heidrunok_outlist
+    heidrunok_format heidrunok_commit heidrunok_open heidrunok_trace heidrunok_close heidrunok_local
+    heidrunok_hold heidrunok_drop heidrunok_recover heidrunok_read heidrunok_ask heidrunok_outlist
 );
 
 #[cfg(before)]
 const BEFORE: Archive = archive!(
     "before",
-    before_heidrunok_format before_heidrunok_commit before_heidrunok_open before_heidrunok_trace before_heidrunok_close
-    before_heidrunok_local before_heidrunok_recover before_heidrunok_read before_heidrunok_ask before_heidrunok_outlist
+    before_heidrunok_format before_heidrunok_commit before_heidrunok_open before_heidrunok_trace before_heidrunok_close before_heidrunok_local
+    before_heidrunok_hold before_heidrunok_drop before_heidrunok_recover before_heidrunok_read before_heidrunok_ask before_heidrunok_outlist
 );
 
 /// Rust first: what the others are held to.
@@ -201,6 +216,17 @@ impl Side for Archive {
         let (mut n, mut f, mut x) = (0, 0, 0);
         let number = unsafe { (self.local)(img.as_mut_ptr(), img.len(), t, log.as_mut_ptr(), log.len(), at, &mut n, &mut f, &mut x) };
         told(number, x, Freed { length: n, freed: f })
+    }
+    fn hold(&self, img: &mut [u32], h: u32, o: Name, log: &mut [u8], at: usize) -> Result<usize, Refusal> {
+        let (mut n, mut x) = (0, 0);
+        let (words, bytes) = (img.len(), log.len());
+        let number = unsafe { (self.hold)(img.as_mut_ptr(), words, h, o.partition, o.slot, log.as_mut_ptr(), bytes, at, &mut n, &mut x) };
+        told(number, x, n)
+    }
+    fn drop(&self, img: &mut [u32], h: u32, log: &mut [u8], at: usize) -> Result<usize, Refusal> {
+        let (mut n, mut x) = (0, 0);
+        let number = unsafe { (self.drop)(img.as_mut_ptr(), img.len(), h, log.as_mut_ptr(), log.len(), at, &mut n, &mut x) };
+        told(number, x, n)
     }
     fn recover(&self, img: &mut [u32], log: &[u8]) -> Result<usize, Refusal> {
         let (mut n, mut x) = (0, 0);

@@ -1,6 +1,6 @@
 //! All sides give the same answers: on the report's logs, on cut and altered ones, and call by call on random heaps.
 use crate::archive::{sides, Transaction};
-use crate::catalogue::{self, Name, Operation, Refusal, FLAGS, FRONT, STRIDE};
+use crate::catalogue::{Name, Operation, Refusal, FLAGS, FRONT, STRIDE};
 use crate::heaps::{self, Random};
 use std::fmt::Debug;
 
@@ -42,17 +42,14 @@ impl Lent {
     }
 }
 
-/// All recover a log into words of a length, which hold something else on each side. Where the tail begins no line Rust answers for `before`,
-/// which ignores it if it is of a commit before W3.
+/// All recover a log into words of a length, which hold something else on each side.
 fn recovered(log: &[u8], words: usize) -> (Result<usize, Refusal>, Vec<u32>) {
     let mut lent = Lent::new(words, 0);
     for (k, img) in lent.images.iter_mut().enumerate() {
         img.fill(7 + k as u32);
     }
     let what = format!("recovery of {:?}", String::from_utf8_lossy(log));
-    let torn = log.split(|&b| b == b'\n').last().is_some_and(catalogue::torn);
-    let asked = |k: usize| if torn || sides()[k].name() != "before" { k } else { 0 };
-    let answer = lent.all(&what, |k, img, _| sides()[asked(k)].recover(img, log));
+    let answer = lent.all(&what, |k, img, _| sides()[k].recover(img, log));
     (answer, lent.images.swap_remove(0))
 }
 
@@ -61,11 +58,11 @@ fn words_of(log: &[u8]) -> usize {
     let text = String::from_utf8_lossy(log);
     let fields: Vec<&str> = text.lines().next().unwrap_or("").split('\t').collect();
     match fields[..] {
-        ["heap", "1" | "2", p, s] => {
+        ["heap", "1" | "2" | "3", p, s] => {
             let n = |x: &str| x.parse().unwrap_or(1usize).min(100);
             FRONT + STRIDE * n(p) * n(s)
         }
-        _ => 93,
+        _ => 125,
     }
 }
 
@@ -93,7 +90,7 @@ fn altered(r: &mut Random, log: &[u8]) -> Vec<u8> {
     for _ in 0..r.below(3) {
         if !bad.is_empty() {
             let at = r.below(bad.len());
-            bad[at] = r.pick(b"\n\t0123456789newsetclrvalrootunrootendopentracecloselocalheap ");
+            bad[at] = r.pick(b"\n\t0123456789newsetclrvalrootunrootendopentracecloselocalholddropheap ");
         }
     }
     bad
@@ -111,7 +108,7 @@ pub fn reports(folder: &str) {
         let want = std::fs::read_to_string(path.with_extension("report")).unwrap();
         assert_eq!(report(&log), want, "{path:?}");
         logs += 1;
-        for words in [0, 36, 37, 93, heaps::WORDS] {
+        for words in [0, 68, 69, 93, 125, heaps::WORDS] {
             let _ = recovered(&log, words);
         }
         for _ in 0..if log.len() > 32768 { 0 } else { 200 } {
@@ -183,12 +180,20 @@ fn outcome<T>(answer: Result<T, Refusal>, length: impl Fn(T) -> usize) -> (usize
     }
 }
 
+/// A name, mostly of an object in use, at times one whose partition is too large.
+fn any_name(r: &mut Random, img: &[u32], p: usize, s: usize) -> Name {
+    let used: Vec<usize> = (0..p * s).filter(|j| img[FRONT + STRIDE * j] != 0).collect();
+    let place = if used.is_empty() || r.below(4) == 0 { r.below(p * s + s) } else { r.pick(&used) };
+    Name { partition: (place / s) as u32, slot: (place % s) as u32 }
+}
+
 /// A random call by all sides, its record at a place.
 fn any_call(r: &mut Random, lent: &mut Lent, p: usize, s: usize, at: usize) -> (usize, u32) {
     let more = r.below(12) / 11;
     let q = r.below(p + more) as u32;
-    let n = Name { partition: q, slot: r.below(s) as u32 };
-    match r.below(16) {
+    let n = any_name(r, lent.image(), p, s);
+    let h = if r.below(20) == 0 { 31 + r.below(2) as u32 } else { r.below(3) as u32 }; // few, so that they are met again
+    match r.below(20) {
         0..=4 => {
             let t = any_transaction(r, lent.image(), p, s);
             outcome(lent.all(&format!("commit of {:?}", t.ops), |k, img, log| sides()[k].commit(img, &t, log, at)), |n| n)
@@ -200,8 +205,10 @@ fn any_call(r: &mut Random, lent: &mut Lent, p: usize, s: usize, at: usize) -> (
         }
         9 => outcome(lent.all("close", |k, img, log| sides()[k].close(img, log, at)), |c| c.length),
         10 | 11 => outcome(lent.all("local", |k, img, log| sides()[k].local(img, q, log, at)), |f| f.length),
-        12 => outcome(lent.all("outlist", |k, img, _| sides()[k].outlist(img, q)), |_| 0),
-        13 => outcome(lent.all("read", |k, img, _| sides()[k].read(img, n)), |_| 0),
+        12..=14 => outcome(lent.all("hold", |k, img, log| sides()[k].hold(img, h, n, log, at)), |n| n),
+        15 => outcome(lent.all("drop", |k, img, log| sides()[k].drop(img, h, log, at)), |n| n),
+        16 => outcome(lent.all("outlist", |k, img, _| sides()[k].outlist(img, q)), |_| 0),
+        17 => outcome(lent.all("read", |k, img, _| sides()[k].read(img, n)), |_| 0),
         _ => outcome(lent.all("ask", |k, img, _| sides()[k].ask(img, n)), |_| 0),
     }
 }

@@ -132,6 +132,7 @@ pub struct Log {
     pub phases: usize,
     pub traces: usize,
     pub locals: usize,
+    pub sessions: usize,
     commits: usize,
     used: usize,
 }
@@ -141,7 +142,7 @@ impl Log {
         let mut image = vec![0; FRONT + STRIDE * partitions * S];
         let mut bytes = vec![0; 32 * lines + 65536];
         let at = catalogue::format(&mut image, partitions as u32, S as u32, &mut bytes, 0).unwrap();
-        Log { r: Random::new(seed), image, bytes, at, lines: 1, phases: 0, traces: 0, locals: 0, commits: 0, used: 0 }
+        Log { r: Random::new(seed), image, bytes, at, lines: 1, phases: 0, traces: 0, locals: 0, sessions: 0, commits: 0, used: 0 }
     }
 
     fn finish(mut self) -> Self {
@@ -215,11 +216,23 @@ impl Log {
             self.locals += 1;
         }
     }
+
+    /// One of eight handles takes a random object, or nothing.
+    fn session(&mut self) {
+        let h = self.r.below(8) as u32;
+        let n = name_of(self.r.pick(&places(&self.image, true)));
+        let (img, log) = (&mut self.image, &mut self.bytes);
+        let dropped = self.r.below(3) == 0;
+        let answer = if dropped { catalogue::drop(img, h, log, self.at) } else { catalogue::hold(img, h, n, log, self.at) };
+        self.at += answer.unwrap();
+        self.lines += 1;
+        self.sessions += 1;
+    }
 }
 
 /// A log of at least `lines` lines. With phases: a whole one after ten transactions if half the slots are in use then, else after 25 at most.
-/// With locals: a local collection after every fourth transaction.
-pub fn log(seed: u64, lines: usize, phases: bool, locals: bool) -> Log {
+/// With locals: a local collection after every fourth transaction. With sessions: a hold or a drop after every second one.
+pub fn log(seed: u64, lines: usize, phases: bool, locals: bool, sessions: bool) -> Log {
     let mut l = Log::new(seed, P, lines);
     let mut since = 0;
     while l.lines < lines {
@@ -227,6 +240,9 @@ pub fn log(seed: u64, lines: usize, phases: bool, locals: bool) -> Log {
         since += 1;
         if locals && l.commits % 4 == 0 {
             l.local();
+        }
+        if sessions && l.commits % 2 == 0 {
+            l.session();
         }
         if phases && (since >= 10 && places(&l.image, true).len() >= HALF || since >= 25) {
             since = 0;

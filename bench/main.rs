@@ -58,10 +58,15 @@ fn recovery(sides: &[&dyn Side], names: &[&str], rounds: usize) {
     println!("\n## Recovery, the whole log into one image\n");
     timing::head("log", names);
     let few = |lines: usize| (rounds * 1000 / lines).max(31);
-    for (kind, phases, locals) in [("commits", false, false), ("with phases", true, false), ("with phases and locals", true, true)] {
+    for (kind, phases, locals, sessions) in [
+        ("commits", false, false, false),
+        ("with phases", true, false, false),
+        ("with phases and locals", true, true, false),
+        ("with phases, locals and sessions", true, true, true),
+    ] {
         for lines in [1_000, 10_000, 100_000] {
-            let log = heaps::log(lines as u64, lines, phases, locals);
-            let counted = [(log.phases, "phases"), (log.traces, "traces"), (log.locals, "locals")];
+            let log = heaps::log(lines as u64, lines, phases, locals, sessions);
+            let counted = [(log.phases, "phases"), (log.traces, "traces"), (log.locals, "locals"), (log.sessions, "holds and drops")];
             let parts: String = counted.iter().filter(|(n, _)| *n > 0).map(|(n, of)| format!(", {n} {of}")).collect();
             let label = format!("{kind}, {} lines, {} bytes ({} objects{parts})", log.lines, log.bytes.len(), log.objects());
             recovery_of(sides, &label, &log, few(lines));
@@ -77,6 +82,7 @@ fn recovery(sides: &[&dyn Side], names: &[&str], rounds: usize) {
 /// One heap at the moments at which calls are timed. There are many, so that no branch is learnt by heart.
 struct Case {
     shut: Vec<u32>,
+    held: Vec<u32>,
     opened: Vec<u32>,
     closing: Vec<u32>,
     chains: [Vec<u32>; 2],
@@ -105,6 +111,8 @@ fn case(seed: u64) -> Case {
         catalogue::trace(&mut closing, q as u32, &mut log, 0).unwrap();
     }
     let used: Vec<Name> = heaps::places(&shut, true).into_iter().map(heaps::name_of).collect();
+    let mut held = shut.clone();
+    catalogue::hold(&mut held, HANDLE, used[used.len() / 2], &mut log, 0).unwrap();
     let (led, lost): (Vec<Name>, Vec<Name>) = used.iter().partition(|&&n| catalogue::ask(&shut, n) == Ok(true));
     Case {
         chains: [heaps::chain(P, heaps::HALF), heaps::chain(1, S)],
@@ -116,6 +124,7 @@ fn case(seed: u64) -> Case {
         led: r.pick(&led),
         lost: r.pick(&lost),
         shut,
+        held,
         opened,
         closing,
     }
@@ -130,10 +139,13 @@ struct Call {
 
 const AT: usize = 100;
 
+/// The handle that is used.
+const HANDLE: u32 = 31;
+
 /// The partition of the long chain whose last object a root names.
 const TOP: u32 = (heaps::HALF / S - 1) as u32;
 
-const CALLS: [Call; 13] = [
+const CALLS: [Call; 16] = [
     Call { label: "format", on: |c| &c.shut, make: |s, l, _| black_box(s.format(&mut l.img, P as u32, S as u32, &mut l.log, AT)).is_ok() },
     Call { label: "commit of 1", on: |c| &c.shut, make: |s, l, c| black_box(s.commit(&mut l.img, &c.one, &mut l.log, AT)).is_ok() },
     Call { label: "commit of 32", on: |c| &c.shut, make: |s, l, c| black_box(s.commit(&mut l.img, &c.many, &mut l.log, AT)).is_ok() },
@@ -155,6 +167,13 @@ const CALLS: [Call; 13] = [
     },
     Call { label: "close", on: |c| &c.closing, make: |s, l, _| black_box(s.close(&mut l.img, &mut l.log, AT)).is_ok() },
     Call { label: "local", on: |c| &c.shut, make: |s, l, c| black_box(s.local(&mut l.img, c.loose, &mut l.log, AT)).is_ok() },
+    Call { label: "hold", on: |c| &c.shut, make: |s, l, c| black_box(s.hold(&mut l.img, HANDLE, c.object, &mut l.log, AT)).is_ok() },
+    Call {
+        label: "hold in a phase, of an object that no root leads to",
+        on: |c| &c.closing,
+        make: |s, l, c| black_box(s.hold(&mut l.img, HANDLE, c.lost, &mut l.log, AT)).is_ok(),
+    },
+    Call { label: "drop", on: |c| &c.held, make: |s, l, _| black_box(s.drop(&mut l.img, HANDLE, &mut l.log, AT)).is_ok() },
     Call { label: "outlist", on: |c| &c.shut, make: |s, l, c| black_box(s.outlist(&l.img, c.traced)).is_ok() },
     Call { label: "read", on: |c| &c.shut, make: |s, l, c| black_box(s.read(&l.img, c.object)).is_ok() },
     Call { label: "ask, answered yes", on: |c| &c.shut, make: |s, l, c| black_box(s.ask(&l.img, c.led)) == Ok(true) },

@@ -47,8 +47,27 @@ static void places(void) {
         keep();
         CHECK(heidrunok_commit(img, WORDS, &op, 1, log_buffer, sizeof log_buffer, ats[i], &length, &extra) == 17 && length == 0 && kept());
     }
+    CHECK(heidrunok_hold(img, WORDS, 0, 0, 0, log_buffer, sizeof log_buffer, SIZE_MAX, &length, &extra) == 9 && length == 0 && kept());
+    CHECK(heidrunok_drop(img, WORDS, 0, log_buffer, sizeof log_buffer, SIZE_MAX, &length, &extra) == 17 && length == 0 && kept());
     CHECK(heidrunok_commit(img, WORDS - 1, &op, 1, log_buffer, sizeof log_buffer, 11, &length, &extra) == 1);
     CHECK(heidrunok_format(img, WORDS - 1, 2, 4, log_buffer, sizeof log_buffer, 11, &length, &extra) == 2 && kept());
+}
+
+/* Handles are numbers in C: one too large is refused, and an object that is not there. Nothing changes. */
+static void handles(void) {
+    size_t length = 99, extra = 99;
+    const uint32_t large[] = {HEIDRUNOK_HANDLES, UINT32_MAX};
+    keep();
+    for (size_t i = 0; i < sizeof large / sizeof *large; i++) {
+        CHECK(heidrunok_hold(img, WORDS, large[i], 0, 0, log_buffer, sizeof log_buffer, 11, &length, &extra) == 7 && length == 0 && extra == 0);
+        CHECK(heidrunok_drop(img, WORDS, large[i], log_buffer, sizeof log_buffer, 11, &length, &extra) == 7 && length == 0 && extra == 0);
+    }
+    CHECK(heidrunok_hold(img, WORDS, 0, UINT32_MAX, 0, log_buffer, sizeof log_buffer, 11, &length, &extra) == 7 && length == 0);
+    CHECK(heidrunok_hold(img, WORDS, 0, 0, 4, log_buffer, sizeof log_buffer, 11, &length, &extra) == 7 && length == 0);
+    CHECK(heidrunok_hold(img, WORDS, 0, 0, 0, log_buffer, sizeof log_buffer, 11, &length, &extra) == 9 && length == 0);
+    CHECK(kept());
+    CHECK(heidrunok_drop(img, WORDS, HEIDRUNOK_HANDLES - 1, log_buffer, sizeof log_buffer, 11, &length, &extra) == 0 && length == 8);
+    CHECK(memcmp(log_buffer + 11, "drop\t31\n", 8) == 0 && memcmp(was, img, sizeof img) == 0);
 }
 
 /* Words of no sound image: every call but format and recover says 1, and the questions answer zeros. */
@@ -66,6 +85,10 @@ static void unsound(void) {
     CHECK(heidrunok_close(img, WORDS, log_buffer, sizeof log_buffer, 11, &length, &traces, &freed, &extra) == 1 && traces == 0 && freed == 0);
     freed = 99;
     CHECK(heidrunok_local(img, WORDS, 0, log_buffer, sizeof log_buffer, 11, &length, &freed, &extra) == 1 && length == 0 && freed == 0);
+    length = 99;
+    CHECK(heidrunok_hold(img, WORDS, 0, 0, 0, log_buffer, sizeof log_buffer, 11, &length, &extra) == 1 && length == 0 && extra == 0);
+    length = 99;
+    CHECK(heidrunok_drop(img, WORDS, 0, log_buffer, sizeof log_buffer, 11, &length, &extra) == 1 && length == 0 && extra == 0);
     CHECK(heidrunok_read(img, WORDS, 0, 0, &payload, fields) == 1 && payload == 0 && memcmp(fields, zeros, sizeof fields) == 0);
     CHECK(heidrunok_ask(img, WORDS, 0, 0, &yes) == 1 && !yes);
     CHECK(heidrunok_outlist(img, WORDS, 0, &held, names) == 1 && held == 0 && memcmp(names, zeros, sizeof names) == 0);
@@ -81,6 +104,7 @@ int main(void) {
     CHECK(heidrunok_format(img, WORDS, 2, 4, log_buffer, sizeof log_buffer, 0, &length, &extra) == 0 && length == 11);
     operations();
     places();
+    handles();
     unsound();
     return failed != 0;
 }

@@ -23,11 +23,13 @@ extern "C" {
 #endif
 
 /* How many words an image of P partitions (1 to 16) of S slots (1 to 64) has. */
-#define HEIDRUNOK_WORDS(P, S) (37 + 7 * (size_t)(P) * (size_t)(S))
+#define HEIDRUNOK_WORDS(P, S) (69 + 7 * (size_t)(P) * (size_t)(S))
 /* The most operations of one commit. */
 #define HEIDRUNOK_OPERATIONS 32
 /* The most names of an outlist. */
 #define HEIDRUNOK_NAMES 256
+/* How many session handles there are: 0 to 31. */
+#define HEIDRUNOK_HANDLES 32
 
 /* Made by the six functions below. Zeroed memory is no operation, and is refused with 7. */
 typedef struct {
@@ -71,15 +73,22 @@ uint32_t heidrunok_trace(uint32_t *img, size_t words, uint32_t partition, uint8_
 /* also answers the traces counted and the number of objects freed */
 uint32_t heidrunok_close(uint32_t *img, size_t words, uint8_t *log, size_t bytes, size_t at, size_t *length, uint32_t *traces,
                          size_t *freed, size_t *extra);
-/* frees the objects of one partition that neither a root, nor a field of an object in another partition, nor a chain inside it from either of
- * these leads to; also answers their number */
+/* frees the objects of one partition that neither a root or handle, nor a field of an object in another partition, nor a chain inside it from
+ * either of these leads to; also answers their number */
 uint32_t heidrunok_local(uint32_t *img, size_t words, uint32_t partition, uint8_t *log, size_t bytes, size_t at, size_t *length,
                          size_t *freed, size_t *extra);
+/* the handle takes the object (p, s), whatever it held: that object, and all that it leads to, is freed by no close and no local collection
+ * until the handle is dropped or takes another */
+uint32_t heidrunok_hold(uint32_t *img, size_t words, uint32_t handle, uint32_t p, uint32_t s, uint8_t *log, size_t bytes, size_t at,
+                        size_t *length, size_t *extra);
+/* the handle holds nothing from now on, also where it held nothing before; frees nothing itself */
+uint32_t heidrunok_drop(uint32_t *img, size_t words, uint32_t handle, uint8_t *log, size_t bytes, size_t at, size_t *length,
+                        size_t *extra);
 /* the kept length, where the log is to be cut and the next record goes; refused, the line */
 uint32_t heidrunok_recover(uint32_t *img, size_t words, const uint8_t *log, size_t bytes, size_t *kept, size_t *line);
 /* fields[k] is 0 for nothing, or the name 64 q + t + 1 of the object (q, t) */
 uint32_t heidrunok_read(const uint32_t *img, size_t words, uint32_t p, uint32_t s, uint32_t *payload, uint32_t fields[4]);
-/* whether a root leads to the object (p, s) */
+/* whether a root or handle leads to the object (p, s) */
 uint32_t heidrunok_ask(const uint32_t *img, size_t words, uint32_t p, uint32_t s, bool *yes);
 /* the objects of other partitions that fields of the partition's objects name: how many, and their names in order, unused ones 0 */
 uint32_t heidrunok_outlist(const uint32_t *img, size_t words, uint32_t partition, size_t *held, uint32_t names[HEIDRUNOK_NAMES]);
@@ -88,12 +97,12 @@ static inline const char *heidrunok_refusal(uint32_t number) {
     static const char *const words[] = {
         "accepted",
         "the image is not sound",
-        "partitions or slots out of range, or the image's length is not 37 + 7 P S",
-        "the first line is not a heading of edition 1 or 2, or there is none",
+        "partitions or slots out of range, or the image's length is not 69 + 7 P S",
+        "the first line is not a heading of edition 1, 2 or 3, or there is none",
         "a line without a shape, or a tail that begins none",
-        "a heading again, a collector line within a transaction, or an end without operations",
+        "a heading again, a collector or session line within a transaction, or an end without operations",
         "no operation or more than 32, or the end's number is wrong",
-        "a partition, slot, field or root number is too large",
+        "a partition, slot, field, root or handle number is too large",
         "the slot is in use",
         "the object is not in use",
         "no phase is open",
@@ -102,7 +111,7 @@ static inline const char *heidrunok_refusal(uint32_t number) {
         "the partition is clean",
         "a partition is not clean",
         "the traces equal the allowance",
-        "a root or a marked object refers to an unmarked one",
+        "a root, a handle or a marked object refers to an unmarked one",
         "the record does not fit from that place",
     };
     return number < sizeof words / sizeof *words ? words[number] : "no such refusal";

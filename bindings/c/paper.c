@@ -1,4 +1,5 @@
-/* The paper's example from C: three objects in a chain, a phase of the collector, a partition freed on its own, a crash. Prints bindings/paper.txt. */
+/* The paper's example from C: three objects in a chain, a phase of the collector, a partition freed on its own, a restore session, a crash.
+ * Prints bindings/paper.txt. */
 #include "heidrunok.h"
 #include <stdio.h>
 #include <string.h>
@@ -54,6 +55,14 @@ static void local(const char *what, uint32_t partition) {
     if (number == 0) {
         printf("%s: %zu freed\n", what, freed);
     }
+}
+
+static void hold(const char *what, uint32_t handle, uint32_t p, uint32_t s) {
+    logged(what, heidrunok_hold(img, WORDS, handle, p, s, log_buffer, sizeof log_buffer, end, &length, &extra), "");
+}
+
+static void drop(const char *what, uint32_t handle) {
+    logged(what, heidrunok_drop(img, WORDS, handle, log_buffer, sizeof log_buffer, end, &length, &extra), "");
 }
 
 static void ask(const char *what, uint32_t p, uint32_t s) {
@@ -126,6 +135,7 @@ int main(void) {
         heidrunok_set(0, 2, 0, 0, 3),
         heidrunok_set(0, 3, 0, 0, 2),
     };
+    const heidrunok_operation expiry[] = {heidrunok_new(1, 2, 70), heidrunok_root(1, 1, 2), heidrunok_unroot(0)};
     const heidrunok_operation too_large[] = {heidrunok_unroot(16)};
     heidrunok_operation many[HEIDRUNOK_OPERATIONS + 1];
     for (size_t i = 0; i <= HEIDRUNOK_OPERATIONS; i++) {
@@ -156,6 +166,16 @@ int main(void) {
     local("local 0", 0);
     local("local 0", 0);
     local("local 2", 2);
+    hold("hold of 1.0", 0, 1, 0);
+    hold("hold of 1.1", 1, 1, 1);
+    hold("a handle too large", 32, 1, 0);
+    commit("the root expires", expiry, 3);
+    local("local 0", 0);
+    local("local 1", 1);
+    ask("ask 0.1", 0, 1);
+    drop("drop", 0);
+    local("local 1", 1);
+    ask("ask 0.1", 0, 1);
     recover("recovery of 5 bytes", 5);
     recover("recovery of 100 bytes", 100);
     recover("recovery of all", end);

@@ -1,8 +1,8 @@
 #!/usr/bin/env python3
-# Makes stdin (bodies at every edge) and stdout (what each is, by the rules of document 01 and of W1 alone; nothing here knows the machine).
+# Makes stdin (bodies at every edge) and stdout (what each is, by the rules of document 01, W1 and W4 alone; nothing here knows the machine).
 import os, re
 
-SHAPES = {"new": 3, "set": 5, "clr": 3, "val": 3, "root": 3, "unroot": 1, "end": 1, "open": 0, "trace": 1, "close": 0, "local": 1}
+SHAPES = {"new": 3, "set": 5, "clr": 3, "val": 3, "root": 3, "unroot": 1, "end": 1, "open": 0, "trace": 1, "close": 0, "local": 1, "hold": 3, "drop": 1}
 
 
 def line(body):
@@ -13,7 +13,7 @@ def line(body):
     if any(not re.fullmatch(rb"0|[1-9][0-9]*", n) or int(n) > 4294967295 for n in numbers):
         return "bad"
     if keyword == "heap":
-        good = len(numbers) == 3 and numbers[0] in (b"1", b"2")
+        good = len(numbers) == 3 and numbers[0] in (b"1", b"2", b"3")
     else:
         good = SHAPES.get(keyword) == len(numbers)
     return " ".join([keyword] + [n.decode() for n in numbers]) if good else "bad"
@@ -24,7 +24,7 @@ def t(*fields):
 
 
 MOST = 4294967295
-honest = [t("heap", 1, 2, 4), t("new", 0, 0, 10), t("set", 0, 0, 0, 1, 0), t("clr", 0, 0, 3), t("val", 1, 0, 20), t("root", 0, 0, 0), t("unroot", 15), t("end", 6), t("open"), t("trace", 1), t("close"), t("local", 1), t("heap", 2, 2, 4)]
+honest = [t("heap", 1, 2, 4), t("new", 0, 0, 10), t("set", 0, 0, 0, 1, 0), t("clr", 0, 0, 3), t("val", 1, 0, 20), t("root", 0, 0, 0), t("unroot", 15), t("end", 6), t("open"), t("trace", 1), t("close"), t("local", 1), t("heap", 2, 2, 4), t("hold", 31, 15, 63), t("drop", 31), t("heap", 3, 2, 4)]
 bodies = list(honest)
 # 20 and 21 bytes, the numbers good in both
 for twenty, more in [
@@ -32,6 +32,7 @@ for twenty, more in [
     (t("val", 15, 63, MOST), t("val", 150, 63, MOST)),
     (t("heap", 1, MOST, 16), t("heap", 1, MOST, 160)),
     (t("root", MOST, 15, 6), t("root", MOST, 15, 63)),
+    (t("hold", MOST, 15, 6), t("hold", MOST, 15, 63)),
     (t("set", 15, 63, 3, 15, 63000), t("set", 15, 63, 3, 15, 630000)),
     (t("clr", 150, 630, 30000000), t("clr", 150, 630, 300000000)),
     (t("set", 0, 0, 0, 0, 10000000), t("set", 0, 0, 0, 0, 100000000)),
@@ -52,8 +53,10 @@ for body in honest:
         for n in ["0", "1", "9", "10", "4294967295", "4294967296", "4294967300", "9999999999", "42949672950", "00", "01", "000", "", "+1", "-0", "-1", " 1", "1 ", "1.", "0x1", "1e1", "a", "/", ":", "\r"]:
             bodies.append(t(keyword, *numbers[:i], n.encode(), *numbers[i + 1 :]))
 # headings of other editions, empty bodies, bytes that are no text
-bodies += [t("heap", e, 2, 4) for e in (0, 1, 2, 3, 9, 10, 11, "01", "")] + [b"heap", b"heap\t", b"heap\t1", b"heap\t1\t", b"heap\t1\t2", b"heap\t12\t4", b"heap1\t2\t4"]
+bodies += [t("heap", e, 2, 4) for e in (0, 1, 2, 3, 4, 9, 10, 11, "01", "")] + [b"heap", b"heap\t", b"heap\t1", b"heap\t1\t", b"heap\t1\t2", b"heap\t12\t4", b"heap1\t2\t4"]
 bodies += [b"", b"\t", b"\r", b"\0", b"\0open", bytes([0xFF]), bytes([0xEF, 0xBB, 0xBF]) + b"open", b" ", b"end\x0b1", b"en", b"e", b"n", b"h"]
+# a heading and `hold` start alike
+bodies += [b"he", b"ho", b"hea", b"hol", t("held", 0, 1, 2), t("hoap", 1, 2, 4), t("hold", 1, 2, 4), t("heap", 0, 1, 2), t("hold", 1, 2), t("heap", 1, 2)]
 tail = t("new", 0, 0)
 
 here = os.path.dirname(os.path.abspath(__file__))

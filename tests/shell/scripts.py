@@ -1,6 +1,8 @@
 #!/usr/bin/env python3
-"""Makes the scripts that are not written by hand (paper, stars, local, limits, logs, random-..), and from model.py the .answers of every
-script here but those of w1-.. and w2-..: they were made elsewhere, and model.py gives the same.
+"""Makes the scripts that are not written by hand (paper, stars, local, sessions, limits, logs, random-..), and from model.py the .answers of
+every script here but those of w4-..: they were made elsewhere, and model.py gives the same. The scripts w1-.. and w2-.. were made elsewhere
+too, for an image without handles: their images have W4's 32 words more, so that their digests are the model's; every other answer is as it
+came.
 
 scripts.py            makes them all anew
 scripts.py SEED       writes one random script, for trying more than are stored
@@ -11,7 +13,7 @@ from pathlib import Path
 
 import model
 
-HEAP = "image 93 | buffer 400 | format 2 4 @ | new 0 0 10 | new 1 0 20 | new 0 1 30 | set 0 0 0 1 0 | set 1 0 0 0 1 | root 0 0 0 | commit @"
+HEAP = "image 125 | buffer 400 | format 2 4 @ | new 0 0 10 | new 1 0 20 | new 0 1 30 | set 0 0 0 1 0 | set 1 0 0 0 1 | root 0 0 0 | commit @"
 PHASE = "open @ | trace 1 @ | trace 0 @ | trace 1 @ | trace 0 @ | close @ | show"
 
 # Logs as they are, with what is to be seen.
@@ -19,9 +21,10 @@ LOGS = [
     ("no line at all: 3, line 1", ""),
     ("no complete line", "heap\t1\t2\t4"),
     ("no heading", "open\n"),
-    ("a heading of another edition: 1 and 2 there are", "heap\t3\t2\t4\n"),
+    ("a heading of another edition: 1, 2 and 3 there are", "heap\t4\t2\t4\n"),
     ("", "heap\t0\t2\t4\n"),
     ("", "heap\t2\t2\t4\n"),
+    ("", "heap\t3\t2\t4\n"),
     ("a heading with spaces, a leading zero, a line too long", "heap 1 2 4\n"),
     ("", "heap\t1\t02\t4\n"),
     ("", "heap\t1\t2\t44444444444444444\n"),
@@ -39,12 +42,16 @@ LOGS = [
     ("", "heap\t2\t2\t4\nset\t0\t0\t01"),
     ("", "heap\t2\t2\t4\nend\t4294967296"),
     ("", "heap\t2\t2\t4\nlocal\t0\r"),
-    ("", "heap\t1\t2\t4\nh"),
+    ("", "heap\t1\t2\t4\nhe"),
     ("", "heap\t2\t2\t4\nheap\t2\t2\t4"),
+    ("", "heap\t3\t2\t4\nhold\t\t"),
+    ("", "heap\t3\t2\t4\ndrop\t0\t"),
     ("and one that no line of 20 bytes begins; a digit less, and one does", "heap\t2\t2\t4\nnew\t4294967295\t4294"),
     ("", "heap\t2\t2\t4\nnew\t4294967295\t429"),
     ("", "heap\t2\t2\t4\nset\t429496729\t"),
     ("", "heap\t2\t2\t4\nset\t42949672\t"),
+    ("", "heap\t3\t2\t4\nhold\t4294967295\t429"),
+    ("", "heap\t3\t2\t4\nhold\t4294967295\t42"),
     ("by its shape alone: a whole line without its end, a slot that does not exist, an end of nothing, a phase in a transaction", "heap\t1\t2\t4\nclose"),
     ("", "heap\t1\t2\t4\nval\t99\t99\t1"),
     ("", "heap\t1\t2\t4\nend\t9"),
@@ -62,6 +69,8 @@ LOGS = [
     ("a heading of any edition that there is: 5; of no other: 4", "heap\t1\t2\t4\nheap\t2\t2\t4\n"),
     ("", "heap\t2\t2\t4\nheap\t1\t2\t4\n"),
     ("", "heap\t1\t2\t4\nheap\t3\t2\t4\n"),
+    ("", "heap\t3\t2\t4\nheap\t3\t2\t4\n"),
+    ("", "heap\t3\t2\t4\nheap\t4\t2\t4\n"),
     ("", "heap\t2\t2\t4\nheap\t12\t2\t4\n"),
     ("", "heap\t1\t2\t4\nnew\t0\t0\t1\nopen\n"),
     ("", "heap\t1\t2\t4\nend\t0\n"),
@@ -80,13 +89,31 @@ LOGS = [
     ("", "heap\t1\t2\t4\nnew\t0\t0\t1\nroot\t0\t0\t0\nend\t2\nopen\ntrace\t0\ntrace\t0\n"),
     ("", "heap\t1\t2\t4\nnew\t0\t0\t1\nroot\t0\t0\t0\nend\t2\nopen\ntrace\t0\nclose\n"),
     ("trace 2: 7", "heap\t1\t2\t4\nnew\t0\t0\t1\nroot\t0\t0\t0\nend\t2\nopen\ntrace\t2\n"),
-    ("local lines, under a heading of either edition: 12, 7, 5, no shape", "heap\t1\t2\t4\nlocal\t0\n"),
+    ("local lines, under a heading of any edition: 12, 7, 5, no shape", "heap\t1\t2\t4\nlocal\t0\n"),
     ("", "heap\t2\t2\t4\nlocal\t2\n"),
     ("", "heap\t2\t2\t4\nnew\t0\t0\t1\nlocal\t0\n"),
     ("", "heap\t2\t2\t4\nlocal\n"),
     ("", "heap\t2\t2\t4\nlocal\t0\t0\n"),
     ("and accepted; a tail that begins one", "heap\t1\t2\t4\nnew\t0\t0\t1\nnew\t0\t1\t2\nroot\t0\t0\t0\nend\t3\nlocal\t1\nlocal\t0\nlocal"),
     ("", "heap\t2\t2\t4\nnew\t0\t0\t1\nnew\t0\t1\t2\nroot\t0\t0\t0\nend\t3\nopen\nlocal\t0\ntrace\t0\nloc"),
+    ("hold lines, under a heading of any edition: 9, 7 for the handle, partition and slot, 5, no shape", "heap\t1\t2\t4\nhold\t0\t0\t0\n"),
+    ("", "heap\t2\t2\t4\nhold\t32\t0\t0\n"),
+    ("", "heap\t3\t2\t4\nhold\t0\t2\t0\n"),
+    ("", "heap\t3\t2\t4\nhold\t31\t0\t4\n"),
+    ("", "heap\t3\t2\t4\nnew\t0\t0\t1\nhold\t0\t0\t0\nend\t1\n"),
+    ("", "heap\t3\t2\t4\nhold\t0\t0\n"),
+    ("", "heap\t3\t2\t4\nhold\t0\t0\t0\t0\n"),
+    ("", "heap\t3\t2\t4\nholds\t0\t0\t0\n"),
+    ("drop lines: 7, 5, no shape; of an empty handle it is accepted", "heap\t1\t2\t4\ndrop\t32\n"),
+    ("", "heap\t3\t2\t4\nnew\t0\t0\t1\ndrop\t0\nend\t1\n"),
+    ("", "heap\t3\t2\t4\ndrop\n"),
+    ("", "heap\t3\t2\t4\ndrop\t0\t0\n"),
+    ("", "heap\t3\t2\t4\ndrop\t00\n"),
+    ("", "heap\t2\t2\t4\ndrop\t31\n"),
+    ("and accepted, the largest handle and the object kept; tails that begin one", "heap\t1\t2\t4\nnew\t0\t0\t1\nnew\t0\t1\t2\nroot\t0\t0\t0\nend\t3\nhold\t31\t0\t1\nlocal\t0\nh"),
+    ("", "heap\t3\t2\t4\nnew\t0\t0\t1\nnew\t0\t1\t2\nroot\t0\t0\t0\nend\t3\nhold\t0\t0\t1\ndrop\t0\nlocal\t0\nd"),
+    ("", "heap\t3\t2\t4\nhold\t4294967295\t0\t9"),
+    ("", "heap\t3\t2\t4\nnew\t0\t0\t1\nend\t1\nhold\t7\t0\t0\nnew\t0\t1\t1\ndrop\t4294967295"),
     ("an open phase", "heap\t1\t2\t4\nnew\t0\t0\t1\nroot\t0\t0\t0\nend\t2\nopen\ntrace\t0\nnew\t1\t1\t5\nend\t1\ntra"),
 ]
 
@@ -103,6 +130,11 @@ def acted(text):
     return lines
 
 
+def given(log):
+    """The lines that put a log into the buffer and recover it."""
+    return ["bytes 0 " + " ".join(map(str, log.encode()))] * bool(log) + ["recover %d" % len(log.encode())]
+
+
 def paper():
     """The paper's example acted out, then recovered at every byte of its log."""
     lines = ["# The paper's example, acted out: the records stand one after the other, and the log has 132 bytes.", *acted(HEAP + " | " + PHASE)]
@@ -115,10 +147,10 @@ def paper():
 
 def stars():
     """The paper's numbers with a star, acted out."""
-    alone = "image 93 | buffer 400 | format 2 4 @ | new 0 0 1 | new 1 0 2 | root 0 0 0 | commit @"
+    alone = "image 125 | buffer 400 | format 2 4 @ | new 0 0 1 | new 1 0 2 | root 0 0 0 | commit @"
     return [
-        "# Object (1,0) begins at word 65, and its name is 65: allowance 4, count 4, none freed.",
-        *acted(HEAP + " | open @ | word 65 2 | word 65 1 | read 0 0 | show | trace 1 @ | trace 0 @ | trace 1 @ | trace 0 @ | close @"),
+        "# Object (1,0) begins at word 97, and its name is 65: allowance 4, count 4, none freed.",
+        *acted(HEAP + " | open @ | word 97 2 | word 97 1 | read 0 0 | show | trace 1 @ | trace 0 @ | trace 1 @ | trace 0 @ | close @"),
         "# With an unreferenced (1,1): allowance 5, 1 freed.",
         *acted(HEAP + " | new 1 1 40 | commit @ | open @ | show | trace 1 @ | trace 0 @ | trace 1 @ | trace 0 @ | close @ | show"),
         "# With, instead, a cycle that no root reaches: 2 freed.",
@@ -126,11 +158,11 @@ def stars():
         "# A store in a phase marks its target, and its partition is not clean: close answers 14 and 1, then count 3, none freed.",
         *acted(alone + " | open @ | trace 0 @ | trace 1 @ | set 0 0 0 1 0 | commit @ | show | close @ | trace 1 @ | close @ | show"),
         "# Two roots on one object, no other: the allowance is P.",
-        *acted("image 93 | buffer 400 | format 2 4 @ | new 1 3 9 | root 2 1 3 | root 9 1 3 | commit @ | open @ | show"),
+        *acted("image 125 | buffer 400 | format 2 4 @ | new 1 3 9 | root 2 1 3 | root 9 1 3 | commit @ | open @ | show"),
         "# The last root taken away in a phase: close 12.",
         *acted(alone + " | open @ | trace 0 @ | trace 1 @ | unroot 0 | commit @ | close @"),
         "# Open on an empty heap: 12. Trace twice running: 13.",
-        *acted("image 93 | buffer 400 | format 2 4 @ | open @ | new 0 0 1 | root 0 0 0 | commit @ | open @ | trace 0 @ | trace 0 @"),
+        *acted("image 125 | buffer 400 | format 2 4 @ | open @ | new 0 0 1 | root 0 0 0 | commit @ | open @ | trace 0 @ | trace 0 @"),
         "# In a phase an object is born marked; a store marks even where the field held its target; birth, clr, val and unroot change no flag.",
         *acted(alone + " | root 1 1 0 | commit @ | open @ | trace 0 @ | trace 1 @ | new 0 3 3 | val 1 0 7 | clr 0 0 1 | unroot 1 | commit @ | show | set 0 0 0 0 0 | root 4 0 3 | commit @ | close @ | show"),
         "# A trace stays within its partition, and then marks what lies just outside it, no further.",
@@ -162,7 +194,75 @@ def local():
         "digest",
         "log 270",
         "# No root: 12, after 7.",
-        *acted("image 93 | buffer 400 | format 2 4 @ | new 0 0 1 | commit @ | local 2 @ | local 0 @ | outlist 0 | root 0 0 0 | commit @ | local 0 @"),
+        *acted("image 125 | buffer 400 | format 2 4 @ | new 0 0 1 | commit @ | local 2 @ | local 0 @ | outlist 0 | root 0 0 0 | commit @ | local 0 @"),
+    ]
+
+
+def sessions():
+    """Handles: what a restore session holds stays."""
+    pair = HEAP + " | new 0 2 1 | new 0 3 2 | commit @"
+    two = "image 125 | buffer 400 | format 2 4 @ | new 0 0 1 | new 1 0 2 | root 0 0 0 | commit @"
+    phase = " | open @ | trace 0 @ | trace 1 @ | trace 0 @ | close @"
+    return [
+        "# An operator browses the restore point 0.0, and its root expires: 0.0 and all that it leads to stay through close and local.",
+        *acted(
+            HEAP + " | new 1 3 9 | root 1 1 3 | commit @ | hold 3 0 0 @ | show | unroot 0 | commit @ | ask 0 0 | ask 1 0 | ask 0 1" + phase + " | local 0 @ | local 1 @ | show"
+            " | # The drop itself frees nothing; the next close does. | drop 3 @ | ask 0 0 | read 0 0 | show | open @ | trace 0 @ | trace 1 @ | close @ | show"
+            " | # Recovery keeps handles as logged: the whole log gives every word again. | digest | recover @ | digest | log @"
+            " | # Cut within the drop it leaves the handle in use, and cut within the hold it leaves none. | recover 199 | show | recover 126 | show"
+        ),
+        "# hold on a handle in use takes another object: local frees the one before; the same again changes nothing and is logged.",
+        *acted(pair + " | hold 5 0 2 @ | hold 5 0 2 @ | local 0 @ | show | hold 5 0 1 @ | local 0 @ | show"),
+        "# Two handles on one object, one handle let go: it stays. drop of an empty handle is accepted and logged.",
+        *acted(pair + " | hold 0 0 2 @ | hold 31 0 2 @ | drop 0 @ | drop 0 @ | drop 7 @ | local 0 @ | show | drop 31 @ | local 0 @ | show"),
+        "# A chain inside the partition that begins at a handle; a handle counts nothing, and no outlist has it.",
+        *acted(pair + " | set 0 2 1 0 3 | set 0 3 3 1 0 | commit @ | hold 9 0 2 @ | local 0 @ | show | outlist 0 | outlist 1 | ask 0 3 | drop 9 @ | ask 0 3 | local 0 @ | show"),
+        "# 7 for the handle, the partition, the slot, before 9; then 9, and 17 last: the records have 11 and 7 bytes. Nothing changes.",
+        *acted(HEAP + " | digest | hold 32 0 0 @ | hold 4294967295 0 0 @ | hold 0 2 0 @ | hold 0 0 4 @ | hold 32 0 3 @ | hold 0 0 3 @ | drop 32 @ | drop 4294967295 @"),
+        "hold 0 0 4 400",
+        "hold 0 0 3 400",
+        "drop 32 400",
+        "hold 0 0 0 400",
+        "hold 0 0 0 390",
+        "drop 0 394",
+        "drop 0 4294967295",
+        "digest",
+        "hold 0 0 0 389",
+        "drop 31 392",
+        "digest",
+        "# A handle alone opens, frees and closes nothing: 12 looks at roots. The question starts from handles as well.",
+        *acted(HEAP + " | hold 0 0 0 @ | unroot 0 | commit @ | open @ | local 0 @ | local 2 @ | ask 0 1 | root 2 0 1 | commit @ | open @ | trace 0 @ | trace 1 @ | trace 0 @ | unroot 2 | commit @ | close @ | local 1 @ | show | root 2 0 1 | commit @ | close @ | show"),
+        "# Open marks what handles name, and the allowance leaves it out: 2 for two partitions, none unmarked; without the handle, 3.",
+        *acted(two + " | hold 4 1 0 @ | open @ | show | trace 0 @ | trace 1 @ | close @ | drop 4 @ | open @ | show"),
+        "# In a phase hold marks its target, and the target's partition stops being clean: close answers 14 and 1, then count 3, none freed.",
+        *acted(two + " | new 1 1 3 | set 1 0 0 1 1 | commit @ | open @ | trace 0 @ | trace 1 @ | hold 7 1 0 @ | show | close @ | trace 1 @ | show | close @ | show"),
+        "# On a marked object it changes no flag; nor does drop, which takes no mark away: 1.0 goes with the next phase.",
+        *acted(two + " | hold 1 1 0 @ | open @ | trace 0 @ | trace 1 @ | hold 2 0 0 @ | hold 1 1 0 @ | drop 1 @ | drop 2 @ | show | close @ | show" + phase + " | show"),
+        "# An object that is made in a phase and held; its root was never there.",
+        *acted(HEAP + " | open @ | trace 1 @ | trace 0 @ | new 1 2 5 | set 1 2 0 1 2 | commit @ | hold 30 1 2 @ | trace 1 @ | trace 0 @ | close @ | show" + phase + " | show"),
+        "# Refusal 16 counts handles as roots: the mark of what a handle names is taken away by hand, and given back.",
+        *acted(two + " | hold 0 1 0 @ | open @ | trace 0 @ | trace 1 @ | word 97 1 | show | close @ | word 97 2 | close @"),
+        "# Formatting leaves no handle.",
+        *acted(two + " | hold 0 0 0 @ | show | format 2 4 @ | show | hold 0 0 0 @"),
+        "# In recovery each is a record of its own: 5 within a transaction; 7 and 9 come with the line, and 12 where a handle is alone.",
+        *given("heap\t3\t2\t4\nnew\t0\t0\t1\nhold\t0\t0\t0\nend\t1\n"),
+        *given("heap\t3\t2\t4\nnew\t0\t0\t1\ndrop\t0\nend\t1\n"),
+        *given("heap\t3\t2\t4\nnew\t0\t0\t1\nend\t1\nhold\t32\t0\t0\n"),
+        *given("heap\t3\t2\t4\nnew\t0\t0\t1\nend\t1\nhold\t0\t0\t1\n"),
+        *given("heap\t3\t2\t4\nnew\t0\t0\t1\nend\t1\nhold\t0\t0\t0\nopen\n"),
+        "# They are good under a heading of any edition, and a log of edition 1 is carried on with them.",
+        *given("heap\t1\t2\t4\nnew\t0\t0\t1\nroot\t0\t0\t0\nend\t2\n"),
+        "hold 6 0 0 38",
+        "unroot 0",
+        "new 1 1 2",
+        "root 3 1 1",
+        "commit 49",
+        "local 0 85",
+        "show",
+        "digest",
+        "recover 93",
+        "digest",
+        "log 93",
     ]
 
 
@@ -173,8 +273,8 @@ def grouped(operations):
 
 
 def limits():
-    """The largest of everything: 7,205 words, 65,536 bytes, 32 operations, the largest numbers."""
-    text = "image 7205 | buffer 65536 | format 16 64 65524 | format 17 64 0 | format 16 65 0 | format 16 64 65523 | digest | format 16 64 0"
+    """The largest of everything: 7,237 words, 65,536 bytes, 32 operations, 32 handles, the largest numbers."""
+    text = "image 7237 | buffer 65536 | format 16 64 65524 | format 17 64 0 | format 16 65 0 | format 16 64 65523 | digest | format 16 64 0"
     text += " | new 15 63 4294967295 | new 0 0 0 | set 15 63 3 15 63 | root 15 15 63 | commit 13 | read 15 63 | ask 15 63 | ask 0 0 | log 82"
     text += "".join(" | new 1 %d %d" % (i, i) for i in range(32)) + " | commit 82"
     text += "".join(" | new 2 %d %d" % (i, i) for i in range(33)) + " | commit 600 | commit 600"
@@ -190,17 +290,21 @@ def limits():
     text += " | outlist 3 | show | local 0 1000" + grouped("new %d %d 0" % (4 + s // 16, 4 * (s % 16) + k) for s in range(64) for k in range(4) if 4 * (s % 16) + k != 63)
     text += grouped("set 3 %d %d %d %d" % (s, k, 4 + s // 16, 4 * (s % 16) + k) for s in range(64) for k in range(4)) + " | outlist 3 | outlist 7 | digest"
     text += " | local 4 1000 | local 3 1000 | local 4 1000 | digest"
+    # every handle, two on one object of each partition; twenty let go, so that four objects have none any more
+    text += grouped("new %d 40 0" % p for p in range(16) if p not in (5, 6, 7))
+    text += "".join(" | hold %d %d 40 1000" % (h, h % 16) for h in range(32)) + " | hold 32 0 40 1000 | show | digest"
+    text += "".join(" | local %d 1000" % p for p in range(16)) + "".join(" | drop %d 1000" % h for h in range(20)) + " | drop 32 1000 | show"
+    text += "".join(" | local %d 1000" % p for p in range(16)) + " | hold 31 15 63 65523 | hold 31 15 63 65522 | hold 4294967295 4294967295 4294967295 0 | digest"
     return text.split(" | ")
 
 
 def logs():
     """Logs that were never written by a call."""
-    lines = ["# Recovery of any bytes, into any words of the right length; refused, it leaves zeros. Each log stands before its recovery.", "image 93", "word 0 9", "word 92 9", "buffer 500"]
+    lines = ["# Recovery of any bytes, into any words of the right length; refused, it leaves zeros. Each log stands before its recovery.", "image 125", "word 0 9", "word 124 9", "buffer 500"]
     for remark, log in LOGS:
         lines += ["# " + remark] if remark else []
-        lines += ["bytes 0 " + " ".join(map(str, log.encode()))] if log else []
-        lines += ["recover %d" % len(log.encode()), "digest"]
-    return lines + ["show", "# a wrong length is 2 before line 2, and zeros too", "image 92", "word 91 5", "recover 30", "digest", "image 0", "recover 30", "recover 0", "digest"]
+        lines += [*given(log), "digest"]
+    return lines + ["show", "# a wrong length is 2 before line 2, and zeros too", "image 124", "word 123 5", "recover 30", "digest", "image 0", "recover 30", "recover 0", "digest"]
 
 
 class Writer:
@@ -260,8 +364,8 @@ class Writer:
             return
         parts = self.shell.words[0] if self.shell.words else 1
         for _ in range(self.r.randrange(4 * parts + 4)):
-            if self.r.random() < 0.15:
-                self.commit()
+            if self.r.random() < 0.25:
+                self.r.choice([self.commit, self.commit, self.session])()
             unclean = [p for p in range(min(parts, 16)) if len(self.shell.words) > 36 and not self.shell.words[21 + p]]
             if not unclean and self.r.random() < 0.9:
                 break
@@ -271,6 +375,17 @@ class Writer:
 
     def local(self):
         self.logged("local %s" % self.name(True).split()[0])
+
+    def session(self):
+        """A hold, often of an object that nothing else leads to, or a drop, mostly of a handle in use; few handles, so that they are met again."""
+        heap = model.Heap(self.shell.words)
+        handle = self.r.choice([0, 1, 2, 31]) if self.r.random() < 0.96 else self.r.choice([32, 63, model.MOST])
+        if self.r.random() < 0.65:
+            loose = [(p, s) for p, s, a in heap.objects() if heap.w[a] and not heap.reached(p, s)] if heap.sound() else []
+            self.logged("hold %d %s" % (handle, "%d %d" % self.r.choice(loose) if loose and self.r.random() < 0.6 else self.name(True)))
+        else:
+            held = [h for h, ref in enumerate(heap.w[model.HANDLES]) if ref]
+            self.logged("drop %d" % (self.r.choice(held) if held and self.r.random() < 0.7 else handle))
 
     def recovery(self):
         """Recovery of a cut, at times of a log with a byte changed; mostly the whole log afterwards, so that the script goes on."""
@@ -290,12 +405,12 @@ class Writer:
 
     def damage(self):
         """A word changed by hand, every call tried, and the word put back."""
-        at = self.r.choice([self.r.randrange(37), self.r.randrange(len(self.shell.words))])
+        at = self.r.choice([self.r.randrange(37), self.r.randrange(37, 69), self.r.randrange(len(self.shell.words))])
         before = self.shell.words[at]
         self.say("word %d %d" % (at, self.r.choice([0, 1, 2, 3, 64, 65, model.MOST])))
         for line in ("read %s" % self.name(True), "ask %s" % self.name(True), "show"):
             self.say(line)
-        self.logged(self.r.choice(["open", "trace 0", "close", "commit", "local 0"]))
+        self.logged(self.r.choice(["open", "trace 0", "close", "commit", "local 0", "hold 0 0 0", "drop 0"]))
         self.say("word %d %d" % (at, before))
 
     def start(self):
@@ -313,7 +428,7 @@ class Writer:
         self.heading = "format %d %d" % (parts, slots)
         self.start()
         for _ in range(r.randrange(20, 60)):
-            act = r.choices([self.commit, self.phase, self.local, self.recovery, self.damage, self.asking, self.mistake], [12, 4, 4, 2, 2, 5, 1])[0]
+            act = r.choices([self.commit, self.phase, self.local, self.session, self.recovery, self.damage, self.asking, self.mistake], [12, 4, 4, 5, 2, 2, 5, 1])[0]
             act()
             if r.random() < 0.3:
                 self.say("digest")
@@ -327,7 +442,7 @@ class Writer:
             self.say(self.r.choice(["read %s" % self.name(True), "ask %s" % self.name(True), "outlist %s" % self.name(True).split()[0]]))
 
     def mistake(self):
-        self.say(self.r.choice(["read 0", "ask 0 0 0", "set 0 0 0 0", "word 7205 0", "local 0", "outlist 0 0", "recover 65537", "comit 0", "new 00 0 1", "val 0 -1 3", "bytes 0", "bytes 0 256", "log x", "", "# remark", "  \t", "\tread\t0  0 "]))
+        self.say(self.r.choice(["read 0", "ask 0 0 0", "set 0 0 0 0", "word 7237 0", "local 0", "hold 0 0 0", "drop 0", "outlist 0 0", "recover 65537", "comit 0", "new 00 0 1", "val 0 -1 3", "bytes 0", "bytes 0 256", "log x", "", "# remark", "  \t", "\tread\t0  0 "]))
 
 
 if __name__ == "__main__":
@@ -335,9 +450,9 @@ if __name__ == "__main__":
     if len(sys.argv) == 2:
         print(Writer(int(sys.argv[1])).script(), end="")
     else:
-        for make in (paper, stars, local, limits, logs):
+        for make in (paper, stars, local, sessions, limits, logs):
             (here / (make.__name__ + ".script")).write_text("\n".join(make()) + "\n")
         for seed in range(1, 25):
             (here / ("random-%02d.script" % seed)).write_text(Writer(seed).script())
-        for script in set(here.glob("*.script")) - set(here.glob("w[0-9]-*")):
+        for script in set(here.glob("*.script")) - set(here.glob("w4-*")):
             script.with_suffix(".answers").write_bytes(model.play(script.read_bytes()))

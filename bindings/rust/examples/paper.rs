@@ -1,5 +1,6 @@
-//! The paper's example from Rust: three objects in a chain, a phase of the collector, a partition freed on its own, a crash. Prints bindings/paper.txt.
-use heidrunok::{words, Catalogue, Field, Name, Operation, Partition, Refused, Root};
+//! The paper's example from Rust: three objects in a chain, a phase of the collector, a partition freed on its own, a restore session, a
+//! crash. Prints bindings/paper.txt.
+use heidrunok::{words, Catalogue, Field, Handle, Name, Operation, Partition, Refused, Root};
 
 /// A console stores the record's bytes here, and syncs.
 fn logged(what: &str, record: Result<usize, Refused>, end: usize) {
@@ -33,6 +34,16 @@ fn local(what: &str, c: &mut Catalogue<'_>, partition: u32) {
     if let Ok((_, freed)) = freed {
         println!("{what}: {freed} freed");
     }
+}
+
+fn hold(what: &str, c: &mut Catalogue<'_>, handle: Handle, name: Name) {
+    let record = c.hold(handle, name).map(<[u8]>::len);
+    logged(what, record, c.log().len());
+}
+
+fn drop(what: &str, c: &mut Catalogue<'_>, handle: Handle) {
+    let record = c.drop(handle).map(<[u8]>::len);
+    logged(what, record, c.log().len());
 }
 
 fn ask(what: &str, c: &Catalogue<'_>, name: Name) {
@@ -87,6 +98,8 @@ fn main() -> Result<(), Refused> {
         Operation::Set(fifth, Field(0), Some(fourth)),
     ];
     let alone = [Operation::New(stray, 40)];
+    let sixth = Name::new(1, 2);
+    let expiry = [Operation::New(sixth, 70), Operation::Root(Root(1), Some(sixth)), Operation::Root(Root(0), None)];
 
     let (mut image, mut log) = (vec![0; words(2, 4)], vec![0; 400]);
     let mut c = Catalogue::format(&mut image, &mut log, 2, 4)?;
@@ -113,6 +126,16 @@ fn main() -> Result<(), Refused> {
     for partition in [0, 0, 2] {
         local(&format!("local {partition}"), &mut c, partition);
     }
+    hold("hold of 1.0", &mut c, Handle(0), second);
+    hold("hold of 1.1", &mut c, Handle(1), stray);
+    hold("a handle too large", &mut c, Handle(32), second);
+    commit("the root expires", &mut c, &expiry);
+    local("local 0", &mut c, 0);
+    local("local 1", &mut c, 1);
+    ask("ask 0.1", &c, third);
+    drop("drop", &mut c, Handle(0));
+    local("local 1", &mut c, 1);
+    ask("ask 0.1", &c, third);
 
     let (mut again, mut copy) = (vec![0; words(2, 4)], c.log().to_vec());
     recover("recovery of 5 bytes", &mut again, &mut copy, 5);

@@ -35,7 +35,7 @@ fn shown(c: &Catalogue<'_>, all: usize) -> String {
         text.push_str("a phase is open\n");
     }
     for (name, object) in c.objects() {
-        let led = if c.ask(name) == Ok(true) { "" } else { ", no root leads to it" };
+        let led = if c.ask(name) == Ok(true) { "" } else { ", no root or handle leads to it" };
         let _ = writeln!(text, "object {name} payload {}{led}", object.payload);
     }
     text

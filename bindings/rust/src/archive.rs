@@ -1,4 +1,4 @@
-//! The archive's ten functions, each behind one that lends it Rust's slices. All `unsafe` of this crate is here.
+//! The archive's twelve functions, each behind one that lends it Rust's slices. All `unsafe` of this crate is here.
 //!
 //! A slice goes as its pointer and its length, which Rust keeps true; a `&mut` is lent to us alone, so that nothing overlaps and no other
 //! thread is there; the rest are locals of the wrapper. The archive asks for no more (docs/PUBLIC.md: no call has a `requires`), keeps no
@@ -75,6 +75,28 @@ mod c {
             at: usize,
             length: *mut usize,
             freed: *mut usize,
+            extra: *mut usize,
+        ) -> u32;
+        pub fn heidrunok_hold(
+            img: *mut u32,
+            words: usize,
+            handle: u32,
+            p: u32,
+            s: u32,
+            log: *mut u8,
+            bytes: usize,
+            at: usize,
+            length: *mut usize,
+            extra: *mut usize,
+        ) -> u32;
+        pub fn heidrunok_drop(
+            img: *mut u32,
+            words: usize,
+            handle: u32,
+            log: *mut u8,
+            bytes: usize,
+            at: usize,
+            length: *mut usize,
             extra: *mut usize,
         ) -> u32;
         pub fn heidrunok_recover(
@@ -225,6 +247,44 @@ pub fn local(img: &mut [u32], partition: u32, log: &mut [u8], at: usize) -> (Tol
     (told, freed)
 }
 
+pub fn hold(img: &mut [u32], handle: u32, p: u32, s: u32, log: &mut [u8], at: usize) -> Told {
+    let mut told = Told::default();
+    // SAFETY: as in `format`.
+    told.number = unsafe {
+        c::heidrunok_hold(
+            img.as_mut_ptr(),
+            img.len(),
+            handle,
+            p,
+            s,
+            log.as_mut_ptr(),
+            log.len(),
+            at,
+            &mut told.length,
+            &mut told.extra,
+        )
+    };
+    told
+}
+
+pub fn drop(img: &mut [u32], handle: u32, log: &mut [u8], at: usize) -> Told {
+    let mut told = Told::default();
+    // SAFETY: as in `format`.
+    told.number = unsafe {
+        c::heidrunok_drop(
+            img.as_mut_ptr(),
+            img.len(),
+            handle,
+            log.as_mut_ptr(),
+            log.len(),
+            at,
+            &mut told.length,
+            &mut told.extra,
+        )
+    };
+    told
+}
+
 /// The length is what is kept, the extra answer the line.
 pub fn recover(img: &mut [u32], log: &[u8]) -> Told {
     let mut told = Told::default();
@@ -243,7 +303,7 @@ pub fn read(img: &[u32], p: u32, s: u32) -> (u32, u32, [u32; 4]) {
     (number, payload, fields)
 }
 
-/// The number, and whether a root leads to the object.
+/// The number, and whether a root or handle leads to the object.
 pub fn ask(img: &[u32], p: u32, s: u32) -> (u32, bool) {
     let mut yes = false;
     // SAFETY: a slice that is only read, with its length, and a bool of our own, to which the archive writes 0 or 1.

@@ -1,9 +1,9 @@
 //! A verified catalogue for backup retention.
 //!
-//! Objects (restore points, folders, extent lists) refer to one another across partitions; roots keep what they lead to; a collector frees
-//! what no root leads to. The code behind these calls is written in Rattle and proved: every function meets its contract, never does
-//! anything undefined and always returns. This crate is the thin part that is not proved: it lends slices, keeps the place of the next
-//! record, and gives numbers their types. It has no `std` and no dependency, and allocates nothing.
+//! Objects (restore points, folders, extent lists) refer to one another across partitions; roots and session handles keep what they lead to;
+//! a collector frees what neither leads to. The code behind these calls is written in Rattle and proved: every function meets its contract,
+//! never does anything undefined and always returns. This crate is the thin part that is not proved: it lends slices, keeps the place of the
+//! next record, and gives numbers their types. It has no `std` and no dependency, and allocates nothing.
 //!
 //! ```
 //! use heidrunok::{words, Catalogue, Name, Operation, Root};
@@ -34,7 +34,7 @@ pub type Result<T> = core::result::Result<T, Refused>;
 /// How many words an image of so many partitions (1 to 16) and slots of each (1 to 64) has.
 #[must_use]
 pub const fn words(partitions: u32, slots: u32) -> usize {
-    (partitions as usize).saturating_mul(slots as usize).saturating_mul(7).saturating_add(37)
+    (partitions as usize).saturating_mul(slots as usize).saturating_mul(7).saturating_add(69)
 }
 
 /// How many words to lend to the recovery of a log: as many as its heading asks for. With no heading, or one whose numbers are out of
@@ -67,6 +67,15 @@ pub struct Slot(pub u32);
 /// A root's number, 0 to 15.
 #[derive(Clone, Copy, PartialEq, Eq, PartialOrd, Ord, Hash, Debug)]
 pub struct Root(pub u32);
+
+/// A session handle's number, 0 to 31.
+#[derive(Clone, Copy, PartialEq, Eq, PartialOrd, Ord, Hash, Debug)]
+pub struct Handle(pub u32);
+
+impl Handle {
+    /// How many there are.
+    pub const LIMIT: u32 = 32;
+}
 
 /// A field's number, 0 to 3.
 #[derive(Clone, Copy, PartialEq, Eq, PartialOrd, Ord, Hash, Debug)]
@@ -303,8 +312,8 @@ impl<'a> Catalogue<'a> {
         Ok(Closed { record, traces, freed })
     }
 
-    /// Frees the objects of one partition that neither a root, nor a field of an object in another partition, nor a chain inside the
-    /// partition from either of these leads to. A phase may be open or shut.
+    /// Frees the objects of one partition that neither a root or handle, nor a field of an object in another partition, nor a chain inside
+    /// the partition from either of these leads to. A phase may be open or shut.
     ///
     /// # Errors
     /// `Range`, `Rootless`, `Room`.
@@ -312,6 +321,26 @@ impl<'a> Catalogue<'a> {
         let (told, freed) = archive::local(self.image, partition.0, self.log, self.end);
         let record = self.logged(&told, Place::Call)?;
         Ok(Freed { record, freed })
+    }
+
+    /// A session's handle takes an object, whatever it held before: that object, and all that it leads to, is freed by no close and no
+    /// local collection until the handle is dropped or takes another. A phase may be open or shut.
+    ///
+    /// # Errors
+    /// `Range`, `Absent`, `Room`.
+    pub fn hold(&mut self, handle: Handle, name: Name) -> Result<&[u8]> {
+        let told = archive::hold(self.image, handle.0, name.partition.0, name.slot.0, self.log, self.end);
+        self.logged(&told, Place::Call)
+    }
+
+    /// A session's handle holds nothing from now on, also where it held nothing before. It frees nothing itself; the next close, or local
+    /// collection of its partition, may. (The name is the log's, as every call's; it ends no value as Rust's own `drop` does.)
+    ///
+    /// # Errors
+    /// `Range`, `Room`.
+    pub fn drop(&mut self, handle: Handle) -> Result<&[u8]> {
+        let told = archive::drop(self.image, handle.0, self.log, self.end);
+        self.logged(&told, Place::Call)
     }
 
     /// An object's payload and fields.
@@ -324,7 +353,7 @@ impl<'a> Catalogue<'a> {
         Ok(Object { payload, fields: fields.map(Name::of) })
     }
 
-    /// Whether a root leads to an object.
+    /// Whether a root or handle leads to an object.
     ///
     /// # Errors
     /// `Range`, `Absent`.

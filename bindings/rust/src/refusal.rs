@@ -35,12 +35,12 @@ macro_rules! refusals {
 
 refusals! {
     Unsound = 1, "the image is not sound";
-    Size = 2, "partitions or slots out of range, or the image's length is not 37 + 7 P S";
-    Heading = 3, "the first line is not a heading of edition 1 or 2, or there is none";
+    Size = 2, "partitions or slots out of range, or the image's length is not 69 + 7 P S";
+    Heading = 3, "the first line is not a heading of edition 1, 2 or 3, or there is none";
     Shape = 4, "a line without a shape, or a tail that begins none";
-    Order = 5, "a heading again, a collector line within a transaction, or an end without operations";
+    Order = 5, "a heading again, a collector or session line within a transaction, or an end without operations";
     Count = 6, "no operation or more than 32, or the end's number is wrong";
-    Range = 7, "a partition, slot, field or root number is too large";
+    Range = 7, "a partition, slot, field, root or handle number is too large";
     Taken = 8, "the slot is in use";
     Absent = 9, "the object is not in use";
     Shut = 10, "no phase is open";
@@ -49,7 +49,7 @@ refusals! {
     Clean = 13, "the partition is clean";
     Unclean = 14, "a partition is not clean";
     Spent = 15, "the traces equal the allowance";
-    Unmarked = 16, "a root or a marked object refers to an unmarked one";
+    Unmarked = 16, "a root, a handle or a marked object refers to an unmarked one";
     Room = 17, "the record does not fit from that place";
 }
 

@@ -2,7 +2,9 @@
 use std::fmt::Write as _;
 use std::{fs, path::Path};
 
-use heidrunok::{words, words_for, Catalogue, Field, Name, Operation, Partition, Place, Refusal, Refused, Root};
+use heidrunok::{
+    words, words_for, Catalogue, Field, Handle, Name, Operation, Partition, Place, Refusal, Refused, Root,
+};
 
 fn n(p: u32, s: u32) -> Name {
     Name::new(p, s)
@@ -35,13 +37,15 @@ fn records_are_the_bytes_of_the_log() -> Result<(), Refused> {
     for p in [1, 0, 1, 0] {
         disk.extend_from_slice(c.trace(Partition(p))?);
     }
+    disk.extend_from_slice(c.hold(Handle(31), n(0, 1))?);
+    disk.extend_from_slice(c.drop(Handle(31))?);
     let closed = c.close()?;
     disk.extend_from_slice(closed.record);
     assert_eq!((closed.traces, closed.freed), (4, 1));
     assert_eq!(disk, c.log());
-    let text = "heap\t2\t2\t4\nnew\t0\t0\t10\nnew\t1\t0\t20\nnew\t0\t1\t30\nset\t0\t0\t0\t1\t0\nset\t1\t0\t0\t0\t1\n\
+    let text = "heap\t3\t2\t4\nnew\t0\t0\t10\nnew\t1\t0\t20\nnew\t0\t1\t30\nset\t0\t0\t0\t1\t0\nset\t1\t0\t0\t0\t1\n\
         root\t0\t0\t0\nend\t6\nnew\t1\t1\t40\nval\t0\t1\t31\nend\t2\nclr\t0\t0\t3\nunroot\t15\nend\t2\nopen\n\
-        trace\t1\ntrace\t0\ntrace\t1\ntrace\t0\nclose\n";
+        trace\t1\ntrace\t0\ntrace\t1\ntrace\t0\nhold\t31\t0\t1\ndrop\t31\nclose\n";
     assert_eq!(String::from_utf8_lossy(&disk), text);
     Ok(())
 }
@@ -152,8 +156,38 @@ fn one_partition_on_its_own() -> Result<(), Refused> {
 }
 
 #[test]
+fn a_session_keeps_what_it_holds() -> Result<(), Refused> {
+    let (mut image, mut log) = (vec![0; words(2, 4)], vec![b'.'; 400]);
+    let mut c = Catalogue::format(&mut image, &mut log, 2, 4)?;
+    assert_eq!(at(c.hold(Handle(0), n(0, 0)).unwrap_err()), (9, Place::Call));
+    c.commit(&chain())?;
+    assert_eq!(c.hold(Handle(3), n(1, 0))?, b"hold\t3\t1\t0\n");
+    assert_eq!(at(c.hold(Handle(Handle::LIMIT), n(1, 0)).unwrap_err()), (7, Place::Call));
+    assert_eq!(at(c.hold(Handle(0), n(1, 4)).unwrap_err()), (7, Place::Call));
+    assert_eq!(at(c.drop(Handle(Handle::LIMIT)).unwrap_err()), (7, Place::Call));
+    c.commit(&[Operation::Root(Root(0), None)])?;
+    // A handle alone opens and frees nothing.
+    assert_eq!((at(c.open().unwrap_err()).0, at(c.local(Partition(0)).unwrap_err()).0), (12, 12));
+    assert_eq!((c.ask(n(0, 0)), c.ask(n(0, 1))), (Ok(false), Ok(true)));
+    c.commit(&[Operation::New(n(1, 3), 1), Operation::Root(Root(1), Some(n(1, 3)))])?;
+    assert_eq!((c.local(Partition(0))?.freed, c.local(Partition(1))?.freed), (1, 0));
+    c.open()?;
+    for p in [1, 0] {
+        c.trace(Partition(p))?;
+    }
+    assert_eq!(c.close()?.freed, 0);
+    assert_eq!(c.drop(Handle(3))?, b"drop\t3\n");
+    assert_eq!(c.drop(Handle(3))?.len(), 7);
+    assert_eq!((c.ask(n(0, 1))?, c.local(Partition(1))?.freed, c.local(Partition(0))?.freed), (false, 1, 1));
+    let (bytes, before) = (c.log().to_vec(), c.image().to_vec());
+    let (mut image, mut log) = (vec![7; words_for(&bytes)], bytes.clone());
+    assert_eq!(Catalogue::recover(&mut image, &mut log, bytes.len())?.image(), before);
+    Ok(())
+}
+
+#[test]
 fn wrong_sizes() {
-    let (mut image, mut log) = (vec![0; 92], vec![b'.'; 400]);
+    let (mut image, mut log) = (vec![0; 124], vec![b'.'; 400]);
     assert_eq!(Catalogue::format(&mut image, &mut log, 2, 4).unwrap_err().refusal, Refusal::Size);
     assert_eq!(Catalogue::format(&mut [], &mut [], 0, 0).unwrap_err().refusal, Refusal::Size);
     assert_eq!(Catalogue::recover(&mut image, &mut log, 401).unwrap_err().refusal, Refusal::Room);
@@ -162,18 +196,18 @@ fn wrong_sizes() {
     let (mut right, written) = (vec![9; words_for(&bad)], bad.len());
     let refused = Catalogue::recover(&mut right, &mut bad, written).unwrap_err();
     assert_eq!(refused.to_string(), "refused 9, line 3: the object is not in use");
-    assert_eq!(right, [0; 93]);
+    assert_eq!(right, [0; 125]);
 }
 
 #[test]
 fn words_of_headings() {
     for (log, lent) in [
-        (&b"heap\t1\t2\t4\nnew\t0"[..], 93),
-        (b"heap\t2\t16\t64\n", 7205),
-        (b"heap\t2\t17\t64\n", 44),
-        (b"heap\t1\t2\n", 44),
-        (b"heap\t1\t2\t\xff\n", 44),
-        (b"", 44),
+        (&b"heap\t1\t2\t4\nnew\t0"[..], 125),
+        (b"heap\t3\t16\t64\n", 7237),
+        (b"heap\t2\t17\t64\n", 76),
+        (b"heap\t1\t2\n", 76),
+        (b"heap\t1\t2\t\xff\n", 76),
+        (b"", 76),
     ] {
         assert_eq!(words_for(log), lent);
     }

@@ -23,7 +23,7 @@ use Rattle.model.proofs.Soundness.{sound-true}
 use Rattle.model.proofs.Committing.{check-true}
 use Rattle.image.specs.Within.{Within}
 use Rattle.image.proofs.Within.{sound-within, has-word}
-use Rattle.questions.proofs.Naming.{accepted-in}
+use Rattle.verdicts.proofs.Naming.{accepted-in}
 use Rattle.catalogue.specs.declared.Subject.{Subject}
 use Rattle.catalogue.specs.declared.Subject.the-variants.{Single, Outlist as Foreign, Object}
 use Rattle.catalogue.specs.Call.{judgeIn, judgeAct, judgeCommit, judgeForeign, judgeObject, judgeSubject}

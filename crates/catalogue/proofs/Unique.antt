@@ -21,6 +21,10 @@ use Rattle.catalogue.proofs.close.Kinds as close
 use Rattle.catalogue.proofs.close.Reads as close-reads
 use Rattle.catalogue.proofs.local.Kinds as local
 use Rattle.catalogue.proofs.local.Reads as local-reads
+use Rattle.catalogue.proofs.hold.Kinds as hold
+use Rattle.catalogue.proofs.hold.Reads as hold-reads
+use Rattle.catalogue.proofs.drop.Kinds as drop
+use Rattle.catalogue.proofs.drop.Reads as drop-reads
 use Rattle.catalogue.proofs.outlist.Kinds as outlist
 use Rattle.catalogue.proofs.outlist.Reads as outlist-reads
 use Rattle.catalogue.proofs.read.Kinds as read
@@ -61,6 +65,14 @@ close-once κs xs a b s t p q = once _ _ _ _ _ _ _ p q
 pub local-once : (κs : Lfts 2) (xs : Dens κs local.ps) (a b : resT local.r κs .Denot) (s t : AtExit (endedOf 2 local.ps local.r) κs)
     → local-reads.Post κs xs a s → local-reads.Post κs xs b t → Once a b (now (s .0)) (now (t .0)) (now (s .1 .1 .0)) (now (t .1 .1 .0))
 local-once κs xs a b s t p q = once _ _ _ _ _ _ _ p q
+
+pub hold-once : (κs : Lfts 2) (xs : Dens κs hold.ps) (a b : resT hold.r κs .Denot) (s t : AtExit (endedOf 2 hold.ps hold.r) κs)
+    → hold-reads.Post κs xs a s → hold-reads.Post κs xs b t → Once a b (now (s .0)) (now (t .0)) (now (s .1 .1 .1 .0)) (now (t .1 .1 .1 .0))
+hold-once κs xs a b s t p q = once _ _ _ _ _ _ _ p q
+
+pub drop-once : (κs : Lfts 2) (xs : Dens κs drop.ps) (a b : resT drop.r κs .Denot) (s t : AtExit (endedOf 2 drop.ps drop.r) κs)
+    → drop-reads.Post κs xs a s → drop-reads.Post κs xs b t → Once a b (now (s .0)) (now (t .0)) (now (s .1 .1 .0)) (now (t .1 .1 .0))
+drop-once κs xs a b s t p q = once _ _ _ _ _ _ _ p q
 
 -- outlist, read and ask are lent an image that they cannot change
 pub outlist-once : (κs : Lfts 1) (xs : Dens κs outlist.ps) (a b : resT outlist.r κs .Denot) (s t : AtExit (endedOf 1 outlist.ps outlist.r) κs)

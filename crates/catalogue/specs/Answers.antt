@@ -34,7 +34,7 @@ module _ {A : Type 0} where
   saidVerdict Accepted v = accepted v
   saidVerdict (Refused r) v = refusedWith v r
 
--- format, commit, open, trace: the record's length; refused: 0
+-- format, commit, open, trace, hold, drop: the record's length; refused: 0
 abbrev pub said : Answer → Said ℕ
 said (Done n) = accepted n
 said (NotDone r) = refusedWith 0 r

@@ -7,10 +7,11 @@ use lib.ListN.{length, take}
 use Rattle.kinds.specs.Names.{mostOperations}
 use Rattle.kinds.specs.Answers.{blankRecord, noNames}
 use Rattle.kinds.specs.declared.Name.{Name}
+use Rattle.kinds.specs.declared.Handle.{Handle}
 use Rattle.kinds.specs.declared.Partition.{Partition}
 use Rattle.kinds.specs.declared.Operation.{Operation}
 use Rattle.kinds.specs.declared.Single.{Single}
-use Rattle.kinds.specs.declared.Single.the-variants.{Open, Trace, Close, Local}
+use Rattle.kinds.specs.declared.Single.the-variants.{Open, Trace, Close, Local, Hold, Drop}
 use Rattle.kinds.specs.declared.Record.{Record}
 use Rattle.kinds.specs.declared.Outlist.{Outlist}
 use Rattle.kinds.specs.declared.Refusal.{Refusal}
@@ -82,6 +83,7 @@ module _ {A : Type 0} where
   unfoldable pub callBy : (ℕ → A) → (Refusal → A) → Image → Act → List ℕ → ℕ → Outcome A
   callBy done refused img a log at = perform done refused (judgeAct img a) (recordOf a) (applyIn img a) img log at
 
+-- where the length of its record is all that it answers
 abbrev pub callOf : Image → Act → List ℕ → ℕ → Outcome Answer
 callOf img a log at = callBy Done NotDone img a log at
 
@@ -115,6 +117,14 @@ freed img p n = Freed n (localFreed (get img partitions) (get img slots) (p .0) 
 
 abbrev pub localOf : Image → Partition → List ℕ → ℕ → Outcome Freeing
 localOf img p log at = callBy (freed img p) NotFreed img (single (Local p)) log at
+
+-- HOLD 1, 7, 9, 17
+abbrev pub holdOf : Image → Handle → Name → List ℕ → ℕ → Outcome Answer
+holdOf img h n log at = callOf img (single (Hold h n)) log at
+
+-- DROP 1, 7, 17
+abbrev pub dropOf : Image → Handle → List ℕ → ℕ → Outcome Answer
+dropOf img h log at = callOf img (single (Drop h)) log at
 
 -- OUTLIST 1, 7
 unfoldable pub judgeForeign : Image → Partition → Verdict

@@ -8,11 +8,11 @@ use Rattle.loops.specs.Loop.{each}
 use Rattle.loops.proofs.Loops.{tally-le}
 use Rattle.kinds.specs.Names.{mostPartitions}
 use Rattle.model.specs.Image.{Image, flag, state, phase, count, allowance, anchors, get, put}
-use Rattle.model.specs.Acts.{unmarked, unclean, markRoots, allow, openUp, finish, shut, closeUp}
+use Rattle.model.specs.Acts.{unmarked, unclean, markAnchors, allow, openUp, finish, shut, closeUp}
 use Rattle.model.specs.Outlist.{mostPlaces}
 use Rattle.image.specs.Within.{Within}
 use Rattle.image.proofs.Within.{places}
-use Rattle.collector.specs.declared.Sweep.the-variants.{Flags, Roots, Slots}
+use Rattle.collector.specs.declared.Sweep.the-variants.{Flags, Anchors, Slots}
 use Rattle.collector.specs.Sweeps.{swept}
 
 -- no more objects are unmarked than there can be places
@@ -22,9 +22,9 @@ unmarked-few {P} {S} {x = x} w e = omega (arith, e, tally-le (P * S) (λ j. eqb 
 
 -- open, close and the end of a trace, image by image
 module _ (P S : ℕ) (x : Image) {a b c d e : Image} where
-  pub opens : {n : ℕ} → a ≡ put x phase 1 → b ≡ each mostPartitions (swept S Flags) a → c ≡ each anchors (swept S Roots) b → n ≡ unmarked (P * S) c → d ≡ put c count 0
+  pub opens : {n : ℕ} → a ≡ put x phase 1 → b ≡ each mostPartitions (swept S Flags) a → c ≡ each anchors (swept S Anchors) b → n ≡ unmarked (P * S) c → d ≡ put c count 0
       → e ≡ put d allowance (P + n) → e ≡ openUp P S x
-  unfolding openUp allow markRoots unclean swept
+  unfolding openUp allow markAnchors unclean swept
   opens h₁ h₂ h₃ h₄ h₅ h₆ = rw (h₆, h₅, h₄, h₃, h₂, h₁)
 
   pub closes : a ≡ each (P * S) (swept S Slots) x → b ≡ each mostPartitions (swept S Flags) a → c ≡ put b phase 0 → d ≡ put c count 0 → e ≡ put d allowance 0 → e ≡ closeUp P S x

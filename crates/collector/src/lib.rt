@@ -15,10 +15,10 @@ ghost use Rattle.image.specs.Within.{Within};
 ghost use Rattle.collector.specs.Sweeps.{swept, Reaches, closedOf};
 ghost use Rattle.collector.specs.Lists.{Listed, markFields};
 
-// What a sweep does at each number: all partitions become not clean, what roots name is marked, or places are settled.
+// What a sweep does at each number: all partitions become not clean, what roots and handles name is marked, or places are settled.
 enum Sweep {
     Flags,
-    Roots,
+    Anchors,
     Slots,
 }
 
@@ -88,8 +88,8 @@ fn step(img: &mut [u32], p: usize, s: usize, what: Sweep, i: usize)
         Sweep::Flags => {
             image::put_flag(img, i, 0);
         }
-        Sweep::Roots => {
-            let w = image::root_at(img, i);
+        Sweep::Anchors => {
+            let w = image::anchor_at(img, i);
             image::mark_word(img, p, s, w);
         }
         Sweep::Slots => {
@@ -210,7 +210,7 @@ pub fn open(img: &mut [u32], p: usize, s: usize)
 {
     image::put_head(img, image::PHASE, 1);
     each(img, p, s, Sweep::Flags, kinds::Partition::LIMIT as usize);
-    each(img, p, s, Sweep::Roots, image::ANCHORS);
+    each(img, p, s, Sweep::Anchors, image::ANCHORS);
     let n = unmarked(img, p * s);
     image::put_head(img, image::COUNT, 0);
     image::put_head(img, image::ALLOWANCE, (p + n) as u32);

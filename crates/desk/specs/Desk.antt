@@ -5,7 +5,7 @@ use mathlib.Core.List.{List, [], _∷_, _++_}
 use lib.Dec.{ltb, leb}
 use lib.ListN.{length, take, drop, set, replicate}
 use Rattle.kinds.specs.declared.Operation.{Operation}
-use Rattle.kinds.specs.declared.Single.the-variants.{Open, Trace, Close, Local}
+use Rattle.kinds.specs.declared.Single.the-variants.{Open, Trace, Close, Local, Hold, Drop}
 use Rattle.kinds.specs.declared.Verdict.{Verdict}
 use Rattle.kinds.specs.declared.Verdict.the-variants.{Accepted, Refused}
 use Rattle.loops.specs.Loop.{both}
@@ -14,7 +14,7 @@ use Rattle.journal.specs.Recover.{Recovered as A-recovery, recoverOf}
 use Rattle.recovery.specs.declared.Recovery.{Recovery}
 use Rattle.recovery.specs.declared.Recovery.the-variants.{Kept, Refused as NotKept}
 use Rattle.writer.specs.Write.{splice}
-use Rattle.catalogue.specs.Call.{Outcome, outcome, formatOf, commitOf, openOf, traceOf, closeOf, localOf}
+use Rattle.catalogue.specs.Call.{Outcome, outcome, formatOf, commitOf, openOf, traceOf, closeOf, localOf, holdOf, dropOf}
 use Rattle.scripts.specs.declared.command.Next.{Next}
 use Rattle.scripts.specs.declared.command.Next.the-variants.{Number, Nothing as NoWord, Bad}
 use Rattle.scripts.specs.declared.order.Look.{Look as A-look}
@@ -99,6 +99,8 @@ deedOf (Single Open at) ops n img log = answered Done (openOf img log at)
 deedOf (Single (Trace p) at) ops n img log = answered Done (traceOf img p log at)
 deedOf (Single Close at) ops n img log = answered Closed (closeOf img log at)
 deedOf (Single (Local p) at) ops n img log = answered Freed (localOf img p log at)
+deedOf (Single (Hold h o) at) ops n img log = answered Done (holdOf img h o log at)
+deedOf (Single (Drop h) at) ops n img log = answered Done (dropOf img h log at)
 deedOf (Recover k) ops n img log = recoverFor k img log
 deedOf (Look l) ops n img log = outcome (seenFor l (length log)) img log
 

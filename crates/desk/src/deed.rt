@@ -73,6 +73,8 @@ pub(crate) fn deed(
             Single::Trace(p) => Response::Done(catalogue::trace(img, p, log, at)),
             Single::Close => Response::Closed(catalogue::close(img, log, at)),
             Single::Local(p) => Response::Freed(catalogue::local(img, p, log, at)),
+            Single::Hold(h, o) => Response::Done(catalogue::hold(img, h, o, log, at)),
+            Single::Drop(h) => Response::Done(catalogue::drop(img, h, log, at)),
         },
         Deed::Recover(k) => recover(k, img, &*log),
         Deed::Look(l) => seen(l, log.len()),

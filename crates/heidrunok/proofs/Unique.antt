@@ -24,6 +24,10 @@ use Rattle.heidrunok.proofs.heidrunok_close.Kinds as close
 use Rattle.heidrunok.proofs.heidrunok_close.Reads as close-reads
 use Rattle.heidrunok.proofs.heidrunok_local.Kinds as local
 use Rattle.heidrunok.proofs.heidrunok_local.Reads as local-reads
+use Rattle.heidrunok.proofs.heidrunok_hold.Kinds as hold
+use Rattle.heidrunok.proofs.heidrunok_hold.Reads as hold-reads
+use Rattle.heidrunok.proofs.heidrunok_drop.Kinds as drop
+use Rattle.heidrunok.proofs.heidrunok_drop.Reads as drop-reads
 use Rattle.heidrunok.proofs.heidrunok_recover.Kinds as recover
 use Rattle.heidrunok.proofs.heidrunok_recover.Reads as recover-reads
 use Rattle.heidrunok.proofs.heidrunok_read.Kinds as read
@@ -68,6 +72,18 @@ pub local-once : (κs : Lfts 5) (xs : Dens κs local.ps) (a b : resT local.r κs
     → Once (told a (now (s .1 .1 .1 .1 .1 .1 .0)) (yield (now (s .1 .1 .1 .1 .0)) (now (s .1 .1 .1 .1 .1 .0))))
     (told b (now (t .1 .1 .1 .1 .1 .1 .0)) (yield (now (t .1 .1 .1 .1 .0)) (now (t .1 .1 .1 .1 .1 .0)))) (now (s .0)) (now (t .0)) (now (s .1 .1 .0)) (now (t .1 .1 .0))
 local-once κs xs a b s t p q = once _ _ _ _ _ _ _ p q
+
+pub hold-once : (κs : Lfts 4) (xs : Dens κs hold.ps) (a b : resT hold.r κs .Denot) (s t : AtExit (endedOf 4 hold.ps hold.r) κs)
+    → hold-reads.Post κs xs a s → hold-reads.Post κs xs b t
+    → Once (told a (now (s .1 .1 .1 .1 .1 .1 .1 .0)) (now (s .1 .1 .1 .1 .1 .1 .0))) (told b (now (t .1 .1 .1 .1 .1 .1 .1 .0)) (now (t .1 .1 .1 .1 .1 .1 .0)))
+    (now (s .0)) (now (t .0)) (now (s .1 .1 .1 .1 .0)) (now (t .1 .1 .1 .1 .0))
+hold-once κs xs a b s t p q = once _ _ _ _ _ _ _ p q
+
+pub drop-once : (κs : Lfts 4) (xs : Dens κs drop.ps) (a b : resT drop.r κs .Denot) (s t : AtExit (endedOf 4 drop.ps drop.r) κs)
+    → drop-reads.Post κs xs a s → drop-reads.Post κs xs b t
+    → Once (told a (now (s .1 .1 .1 .1 .1 .0)) (now (s .1 .1 .1 .1 .0))) (told b (now (t .1 .1 .1 .1 .1 .0)) (now (t .1 .1 .1 .1 .0)))
+    (now (s .0)) (now (t .0)) (now (s .1 .1 .0)) (now (t .1 .1 .0))
+drop-once κs xs a b s t p q = once _ _ _ _ _ _ _ p q
 
 pub recover-once : (κs : Lfts 4) (xs : Dens κs recover.ps) (a b : resT recover.r κs .Denot) (s t : AtExit (endedOf 4 recover.ps recover.r) κs)
     → recover-reads.Post κs xs a s → recover-reads.Post κs xs b t

@@ -1,4 +1,4 @@
-// The catalogue's ten calls for C and Rust: `rt staticlib heidrunok` proves this crate and writes target/staticlib/libheidrunok.a
+// The catalogue's twelve calls for C and Rust: `rt staticlib heidrunok` proves this crate and writes target/staticlib/libheidrunok.a
 // (bindings/README.md). A slice is a pointer and a length. Each call returns the paper's number, 0 where it is accepted, and writes what it
 // answers through its last pointers: zeros where it is refused, but for the extra answer. None has a `requires`; each has one `ensures`,
 // an equation with the definition that the same call's contract cites in `catalogue` or `recovery`, its answer said in numbers
@@ -9,6 +9,7 @@ use catalogue::Asked;
 use catalogue::Closing;
 use catalogue::Freeing;
 use kinds::Field;
+use kinds::Handle;
 use kinds::Name;
 use kinds::Operation;
 use kinds::Outlist;
@@ -20,9 +21,9 @@ use recovery::Recovery;
 ghost use mathlib.Core.Path.{_≡_};
 ghost use Prim.Native.Nat.{_≤_};
 ghost use lib.ListN.{length};
-ghost use Rattle.kinds.specs.Names.{mostOperations, partition, named, wordOf, Named};
+ghost use Rattle.kinds.specs.Names.{mostOperations, partition, named, session, wordOf, Named};
 ghost use Rattle.catalogue.specs.Answers.{totals, yield, said, saidClosing, saidFreeing, saidReading, saidAsked, saidListing};
-ghost use Rattle.catalogue.specs.Call.{outcome, formatOf, openOf, traceOf, closeOf, localOf, readingOf, askedOf, listingOf};
+ghost use Rattle.catalogue.specs.Call.{outcome, formatOf, openOf, traceOf, closeOf, localOf, holdOf, dropOf, readingOf, askedOf, listingOf};
 ghost use Rattle.journal.specs.Recover.{recoverOf};
 ghost use Rattle.heidrunok.specs.Face.{told, seen, numberOf, restored, saidRecovered, operationOf, commitBy, recordOf, outlistOf};
 
@@ -195,6 +196,40 @@ pub extern "C" fn heidrunok_local(
             return tell(Answer::Refused(r), length, extra);
         }
     }
+}
+
+#[no_mangle]
+pub extern "C" fn heidrunok_hold(
+    img: &mut [u32],
+    h: u32,
+    p: u32,
+    s: u32,
+    log: &mut [u8],
+    at: usize,
+    length: &mut usize,
+    extra: &mut usize,
+) -> u32
+    ensures { λ r. ⌜ outcome (told r (now (extra .exit)) (now (length .exit))) (now (img .exit)) (now (log .exit)) ≡ seen said (holdOf (now (img .entry)) (session h) (named p s) (now (log .entry)) at) ⌝ }
+{
+    tell(
+        catalogue::hold(img, Handle(h), name(p, s), log, at),
+        length,
+        extra,
+    )
+}
+
+#[no_mangle]
+pub extern "C" fn heidrunok_drop(
+    img: &mut [u32],
+    h: u32,
+    log: &mut [u8],
+    at: usize,
+    length: &mut usize,
+    extra: &mut usize,
+) -> u32
+    ensures { λ r. ⌜ outcome (told r (now (extra .exit)) (now (length .exit))) (now (img .exit)) (now (log .exit)) ≡ seen said (dropOf (now (img .entry)) (session h) (now (log .entry)) at) ⌝ }
+{
+    tell(catalogue::drop(img, Handle(h), log, at), length, extra)
 }
 
 // The extra answer is the line.

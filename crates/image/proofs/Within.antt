@@ -11,7 +11,7 @@ use lib.Dec.{eqb, leb}
 use lib.ListN.{length}
 use borrow.Author.Tests.{eqb-false, leb-true}
 use Rattle.kinds.specs.Names.{mostPartitions, mostSlots, radix}
-use Rattle.model.specs.Image.{Image, Key, head, root, flag, state, payload, inlist, field, front, addr, get, put, lengthOf, placeOf, partOf, refer, release, Holder, a-root, a-field}
+use Rattle.model.specs.Image.{Image, Key, head, anchor, flag, state, payload, inlist, field, front, addr, get, put, lengthOf, placeOf, partOf, refer, release, Holder, an-anchor, a-field}
 use Rattle.model.specs.Acts.{mark, markWord}
 use Rattle.model.specs.Outlist.{mostPlaces}
 use Rattle.model.specs.Sound.{Limits, SoundAt, NamesUsed, Right}
@@ -24,7 +24,7 @@ use Rattle.image.specs.Within.{Within}
 -- a key that holds no reference
 abbrev pub Plain : Key → Type 0
 Plain (head h) = h < 5
-Plain (root r) = ⊥
+Plain (anchor r) = ⊥
 Plain (flag p) = p < mostPartitions
 Plain (state j) = Unit {0}
 Plain (payload j) = Unit {0}
@@ -37,7 +37,7 @@ Leads n S w = w ≢ 0 → placeOf S w < n
 
 plain-fits : (κ : Key) → Plain κ → Fits κ
 plain-fits (head h) f = f
-plain-fits (root r) f = absurd f
+plain-fits (anchor r) f = absurd f
 plain-fits (flag p) f = f
 plain-fits (state j) f = tt
 plain-fits (payload j) f = tt
@@ -45,14 +45,14 @@ plain-fits (inlist j) f = absurd f
 plain-fits (field j k) f = absurd f
 
 plain-apart : (n : ℕ) (κ μ : Key) → Plain κ → Holder n μ → same κ μ ≡ false
-plain-apart n (head h) (root r) f (a-root l) = refl
+plain-apart n (head h) (anchor r) f (an-anchor l) = refl
 plain-apart n (head h) (field j k) f (a-field l m) = refl
-plain-apart n (root r) μ f h = absurd f
-plain-apart n (flag p) (root r) f (a-root l) = refl
+plain-apart n (anchor r) μ f h = absurd f
+plain-apart n (flag p) (anchor r) f (an-anchor l) = refl
 plain-apart n (flag p) (field j k) f (a-field l m) = refl
-plain-apart n (state i) (root r) f (a-root l) = refl
+plain-apart n (state i) (anchor r) f (an-anchor l) = refl
 plain-apart n (state i) (field j k) f (a-field l m) = refl
-plain-apart n (payload i) (root r) f (a-root l) = refl
+plain-apart n (payload i) (anchor r) f (an-anchor l) = refl
 plain-apart n (payload i) (field j k) f (a-field l m) = refl
 plain-apart n (inlist j) μ f h = absurd f
 plain-apart n (field j k) μ f h = absurd f
@@ -60,7 +60,7 @@ plain-apart n (field j k) μ f h = absurd f
 -- nor a count
 plain-count : (κ : Key) → Plain κ → (i : ℕ) → same κ (inlist i) ≡ false
 plain-count (head h) f i = refl
-plain-count (root r) f i = absurd f
+plain-count (anchor r) f i = absurd f
 plain-count (flag p) f i = refl
 plain-count (state j) f i = refl
 plain-count (payload j) f i = refl
@@ -69,7 +69,7 @@ plain-count (field j k) f i = absurd f
 
 plain-field : (κ : Key) → Plain κ → (j k : ℕ) → same κ (field j k) ≡ false
 plain-field (head h) f j k = refl
-plain-field (root r) f j k = absurd f
+plain-field (anchor r) f j k = absurd f
 plain-field (flag p) f j k = refl
 plain-field (state i) f j k = refl
 plain-field (payload i) f j k = refl
@@ -77,7 +77,7 @@ plain-field (inlist i) f j k = absurd f
 plain-field (field i c) f j k = absurd f
 
 holder-fits : {n : ℕ} {κ : Key} → Holder n κ → Fits κ
-holder-fits (a-root l) = l
+holder-fits (an-anchor l) = l
 holder-fits (a-field l m) = m
 
 -- a product with S is at most 64 times its other factor

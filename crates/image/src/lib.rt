@@ -4,18 +4,18 @@
 // soundness and is kept by every move (proofs/Within.antt).
 ghost use mathlib.Core.Path.{_≡_};
 ghost use mathlib.Core.Logic.{_≢_};
-ghost use Prim.Native.Nat.{_*_, _^_, _<_, _≤_};
+ghost use Prim.Native.Nat.{_+_, _*_, _^_, _<_, _≤_};
 ghost use lib.ListN.{length, replicate};
-ghost use Rattle.kinds.specs.Names.{mostSlots};
+ghost use Rattle.kinds.specs.Names.{mostSlots, roots};
 ghost use lib.Dec.{leb};
-ghost use Rattle.model.specs.Image.{head, root, flag, state, payload, inlist, field, front, Has, get, put, lengthOf, size, blank, place, placeOf, partOf, lose, gain, refer, release};
+ghost use Rattle.model.specs.Image.{head, anchor, flag, state, payload, inlist, field, front, addr, Has, get, put, lengthOf, size, blank, place, placeOf, partOf, lose, gain, refer, release};
 ghost use Rattle.model.specs.Judge.{inLimits, judgeFormat};
 ghost use Rattle.model.specs.Acts.{markWord};
 ghost use Rattle.model.specs.Sound.{Limits};
 ghost use Rattle.image.specs.Within.{Within, countAt, Loses, Gains};
 
 // The words before the slots, and the words of a slot.
-const FRONT: usize = 37;
+const FRONT: usize = 69;
 
 const STRIDE: usize = 7;
 
@@ -25,13 +25,17 @@ const INLIST: usize = 6;
 // The words of the largest image.
 pub const WORDS: usize = FRONT + STRIDE * (kinds::Partition::LIMIT * kinds::Slot::LIMIT) as usize;
 
-// The holders that are no fields.
-pub const ANCHORS: usize = 16;
+// What holds a reference and is no field: the roots, then the session handles.
+const ROOTS: usize = kinds::Target::ROOTS as usize;
 
-// Where the roots and the flags begin.
+pub const ANCHORS: usize = ROOTS + kinds::Handle::LIMIT as usize;
+
+// Where the roots, the flags and the handles begin.
 const ROOT: usize = 5;
 
 const FLAG: usize = 21;
+
+const HANDLE: usize = 37;
 
 // The words of the head.
 pub const PARTITIONS: usize = 0;
@@ -59,12 +63,31 @@ pub fn head_at(img: &[u32], h: usize) -> u32
     img[h]
 }
 
-// A root.
-pub fn root_at(img: &[u32], r: usize) -> u32
-    requires { ⌜ Has (now img) (root r) ⌝ }
-    ensures { λ w. ⌜ w ≡ get (now (img .entry)) (root r) ⌝ }
+// A handle's number among the anchors.
+pub fn handle(h: kinds::Handle) -> usize
+    ensures { λ a. ⌜ a ≡ roots + h .0 ⌝ }
 {
-    img[ROOT + r]
+    ROOTS + h.0 as usize
+}
+
+// Where an anchor stands: the roots before the flags, the handles behind them.
+fn anchor_place(a: usize) -> usize
+    requires { ⌜ a < 2 ^ 62 ⌝ }
+    ensures { λ r. ⌜ r ≡ addr (anchor a) ⌝ }
+{
+    if a < ROOTS {
+        return ROOT + a;
+    }
+    HANDLE + (a - ROOTS)
+}
+
+// An anchor.
+pub fn anchor_at(img: &[u32], a: usize) -> u32
+    requires { ⌜ Has (now img) (anchor a) ⌝ }
+    ensures { λ w. ⌜ w ≡ get (now (img .entry)) (anchor a) ⌝ }
+{
+    let at = anchor_place(a);
+    img[at]
 }
 
 // A partition's flag.
@@ -215,12 +238,13 @@ pub fn mark_word(img: &mut [u32], p: usize, s: usize, w: u32)
     put_state(img, j, 2);
 }
 
-// A root takes a reference.
-pub fn refer_root(img: &mut [u32], s: usize, r: usize, w: u32)
-    requires { ⌜ Has (now img) (root r) ⌝ }
-    ensures { λ _. ⌜ now (img .exit) ≡ refer s (now (img .entry)) (root r) w ⌝ }
+// An anchor takes a reference.
+pub fn refer_anchor(img: &mut [u32], s: usize, a: usize, w: u32)
+    requires { ⌜ Has (now img) (anchor a) ⌝ }
+    ensures { λ _. ⌜ now (img .exit) ≡ refer s (now (img .entry)) (anchor a) w ⌝ }
 {
-    img[ROOT + r] = w;
+    let at = anchor_place(a);
+    img[at] = w;
 }
 
 // Where the count stands of what a word in a field of the object at j names, if that is in another partition; else 0, where no count stands.

@@ -4,10 +4,11 @@ use mathlib.Core.Bool.{cond}
 use lib.Dec.{eqb}
 use Rattle.kinds.specs.declared.Partition.{Partition}
 use Rattle.kinds.specs.declared.Name.{Name}
+use Rattle.kinds.specs.declared.Handle.{Handle}
 use Rattle.kinds.specs.declared.Target.{Target}
 use Rattle.kinds.specs.declared.Target.the-variants.{Nothing, Object}
 
--- the limits: partitions, slots of each, roots, fields of an object, operations of a commit
+-- the limits: partitions, slots of each, roots, session handles, fields of an object, operations of a commit
 abbrev pub mostPartitions : ℕ
 mostPartitions = 16
 
@@ -16,6 +17,9 @@ mostSlots = 64
 
 abbrev pub roots : ℕ
 roots = 16
+
+abbrev pub handles : ℕ
+handles = 32
 
 abbrev pub fields : ℕ
 fields = 4
@@ -27,12 +31,15 @@ mostOperations = 32
 abbrev pub radix : ℕ
 radix = 64
 
--- partition p, and slot s of it
+-- partition p, slot s of it, and session handle h
 abbrev pub partition : ℕ → Partition
 partition p = record { 0 = p }
 
 abbrev pub named : ℕ → ℕ → Name
 named p s = record { partition = partition p; slot = record { 0 = s } }
+
+abbrev pub session : ℕ → Handle
+session h = record { 0 = h }
 
 -- the word of a target at multiplier M
 abbrev pub wordAt : ℕ → Target → ℕ

@@ -1,5 +1,5 @@
-// The kinds of things that the catalogue speaks of, with their limits: partitions, slots, names of objects, targets of references, fields,
-// records, outlists, operations, single-line acts, refusals; and names as words. That a word and its target invert each other and that words are
+// The kinds of things that the catalogue speaks of, with their limits: partitions, slots, names of objects, session handles, targets of references,
+// fields, records, outlists, operations, single-line acts, refusals; and names as words. That a word and its target invert each other and that words are
 // in the order of names is proved once, for any multiplier above the largest slot number, in proofs/Names.antt.
 ghost use mathlib.Core.Path.{_≡_};
 ghost use Rattle.kinds.specs.Names.{named, wordOf, targetOf, Named};
@@ -35,7 +35,14 @@ pub fn named(p: u32, s: u32) -> Name
     }
 }
 
-// What a field or a root holds: nothing, or an object.
+// A session handle's number.
+pub struct Handle(pub u32);
+
+impl Handle {
+    pub const LIMIT: u32 = 32;
+}
+
+// What a field, a root or a handle holds: nothing, or an object.
 pub enum Target {
     Nothing,
     Object(Name),
@@ -96,6 +103,8 @@ pub enum Single {
     Trace(Partition),
     Close,
     Local(Partition),
+    Hold(Handle, Name),
+    Drop(Handle),
 }
 
 // Why a call is refused: the paper's number, and its extra answer.

@@ -1,5 +1,5 @@
-// One partition on its own: `local` frees every object of partition t that neither a root, nor a counted foreign reference, nor a chain inside t
-// from either of these leads to, and answers how many (the model's `localUp` and `localFreed`). It notes what roots and counts say and lets crate
+// One partition on its own: `local` frees every object of partition t that neither a root or handle, nor a counted foreign reference, nor a chain inside t
+// from either of these leads to, and answers how many (the model's `localUp` and `localFreed`). It notes what roots, handles and counts say and lets crate
 // todo follow the fields inside t from there; that exactly the places that stay are noted is `all-kept` in proofs/Keeping.antt.
 // `outlist` answers the names that t's objects hold of other partitions' objects (the model's `outlist`): it marks their places and lists
 // the marked ones in order.
@@ -63,7 +63,7 @@ fn note_counted(
     end
 }
 
-// The places of partition t that stay are noted: what roots and foreign fields name there, then what chains inside t lead to.
+// The places of partition t that stay are noted: what roots, handles and foreign fields name there, then what chains inside t lead to.
 fn keep(img: &[u32], p: usize, s: usize, t: usize, marks: &mut [u32; 1024])
     requires { ⌜ Within p s (now img) ⌝ }
     requires { ⌜ (t < p) × (now marks ≡ replicate 1024 0) ⌝ }
@@ -71,7 +71,7 @@ fn keep(img: &[u32], p: usize, s: usize, t: usize, marks: &mut [u32; 1024])
 {
     let lo = t * s;
     let mut list = image::zeros();
-    let named = todo::note_roots(img, p, s, lo, s, &mut *marks, &mut list, 0);
+    let named = todo::note_anchors(img, p, s, lo, s, &mut *marks, &mut list, 0);
     let m = note_counted(img, p, s, t, &mut *marks, &mut list, named);
     todo::spread(img, p, s, lo, s, &mut *marks, &mut list, m);
 }

@@ -2,18 +2,21 @@
 -- Assumes nothing.
 use Prim.Native.Nat.{ℕ, _+_}
 use mathlib.Core.Path.{refl}
+use mathlib.Core.Bool.{cond}
 use mathlib.Core.List.{List, [], _∷_, _++_}
 use Rattle.loops.specs.Cases.{case, Agree}
-use Rattle.kinds.specs.Names.{partition}
+use Rattle.kinds.specs.Names.{partition, named, session}
 use Rattle.kinds.specs.Operations.{new, set-to, val, root-to, unroot, three}
-use Rattle.kinds.specs.declared.Single.the-variants.{Open, Trace, Close, Local}
+use Rattle.kinds.specs.declared.Single.the-variants.{Open, Trace, Close, Local, Hold, Drop}
 use Rattle.kinds.specs.declared.Verdict.{Verdict}
 use Rattle.kinds.specs.declared.Verdict.the-variants.{Accepted, Refused}
-use Rattle.model.proofs.Computing.{imaging, looping, acting, judging}
-use Rattle.model.specs.Image.{Image, count, allowance, inlist, get, blank}
+use Rattle.model.proofs.Computing.{imaging, looping, acting, judging, asking, sounding}
+use Rattle.model.specs.Image.{Image, handle, count, allowance, inlist, get, put, blank}
 use Rattle.model.specs.Acts.{Act, commit, single, localUp, localFreed, unmarked, apply}
 use Rattle.model.specs.Judge.{judge}
-use Rattle.model.specs.History.{unrooted}
+use Rattle.model.specs.Questions.{ask}
+use Rattle.model.specs.Sound.{isSound}
+use Rattle.model.specs.History.{unanchored}
 
 -- what a row reads off: numbers of the heap; or of an act its refusal's number and extra answer, or else the allowance, the count and the number of unmarked
 -- objects, which a close frees; or of a local collection the number freed, the count of the object at place 6, and the objects left
@@ -59,10 +62,10 @@ pub shortcuts :
     case (says (commit three ∷ commit (new 1 1 40 ∷ []) ∷ single Open ∷ single (Trace (partition 0)) ∷ []) (single (Trace (partition 1)))) (accepted 5 1 2) ∷
     -- a partition that was clean is not, once a trace of another marks an object of it
     case (says (commit three ∷ single Open ∷ single (Trace (partition 0)) ∷ single (Trace (partition 1)) ∷ []) (single Close)) (refused 14 0) ∷
-    -- the allowance is P plus the objects in use that no root names
-    case (number (2 + unrooted 2 4 (after (blank 2 4) (commit three ∷ [])))) (number 4) ∷
+    -- the allowance is P plus the objects in use that neither a root nor a handle names
+    case (number (2 + unanchored 2 4 (after (blank 2 4) (commit three ∷ [])))) (number 4) ∷
     [])
-unfolding imaging looping acting judging unrooted
+unfolding imaging looping acting judging unanchored
 shortcuts = (refl, (refl, (refl, (refl, (refl, (refl, (refl, tt)))))))
 
 -- local collections after the paper's transaction and one more
@@ -87,3 +90,48 @@ pub locals :
     [])
 unfolding imaging looping acting judging
 locals = (refl, (refl, (refl, (refl, (refl, (refl, (refl, (refl, tt))))))))
+
+-- session handles: hold h p s, and drop h
+abbrev hold : ℕ → ℕ → ℕ → Act
+hold h p s = single (Hold (session h) (named p s))
+
+abbrev letting : ℕ → Act
+letting h = single (Drop (session h))
+
+-- the paper's transaction, and beside it (0,2), which refers to (0,3), and (1,1): no root leads to these three
+abbrev beside : List Act
+beside = commit three ∷ commit (new 0 2 1 ∷ new 0 3 2 ∷ new 1 1 3 ∷ set-to 0 2 0 0 3 ∷ []) ∷ []
+
+pub held-rows :
+    Agree
+    -- open marks what a handle names, the last handle too, and leaves it out of the allowance; so does W
+    (case (says (beside ++ (hold 31 1 1 ∷ single Open ∷ [])) (single (Trace (partition 0)))) (accepted 6 0 4) ∷
+    case (number (2 + unanchored 2 4 (after (blank 2 4) (beside ++ (hold 31 1 1 ∷ []))))) (number 6) ∷
+    -- in a phase a hold marks its target, so that the target's partition must be traced again; then the close keeps it
+    case (says (traced-all ++ (hold 0 1 0 ∷ [])) (single Close)) (refused 14 1) ∷
+    case (says (traced-all ++ (hold 0 1 0 ∷ single (Trace (partition 1)) ∷ [])) (single Close)) (accepted 5 3 2) ∷
+    -- and of what was marked before no flag changes
+    case (says (traced-all ++ (hold 0 0 0 ∷ [])) (single Close)) (accepted 5 2 3) ∷
+    -- a drop frees nothing, and changes no mark and no flag
+    case (number (unmarked 8 (after (blank 2 4) (beside ++ (hold 0 0 2 ∷ letting 0 ∷ []))))) (number 6) ∷
+    case (says (traced-all ++ (hold 0 0 0 ∷ letting 0 ∷ [])) (single Close)) (accepted 5 2 3) ∷
+    -- with a handle in use and no root there is no open, no close and no local collection
+    case (says (commit (new 0 0 1 ∷ []) ∷ hold 0 0 0 ∷ []) (single Open)) (refused 12 0) ∷
+    case (says (traced-all ++ (hold 0 0 0 ∷ commit (unroot 0 ∷ []) ∷ [])) (single Close)) (refused 12 0) ∷
+    case (says (commit (new 0 0 1 ∷ []) ∷ hold 0 0 0 ∷ []) (single (Local (partition 0)))) (refused 12 0) ∷
+    -- a local collection keeps what a handle names and what that leads to inside the partition; after the drop it frees both
+    case (frees (beside ++ (hold 0 0 2 ∷ [])) 0) (collected 0 0 6) ∷
+    case (frees (beside ++ (hold 0 0 2 ∷ letting 0 ∷ [])) 0) (collected 2 0 4) ∷
+    -- the question starts from handles as well, 16 counts them as roots, and soundness covers them
+    case (number (cond (ask 2 4 (after (blank 2 4) beside) 3) 1 0)) (number 0) ∷
+    case (number (cond (ask 2 4 (after (blank 2 4) (beside ++ (hold 0 0 2 ∷ []))) 3) 1 0)) (number 1) ∷
+    case (shown (judge 2 4 (put (after (blank 2 4) traced-all) (handle 0) 65) (single Close)) (blank 2 4)) (refused 16 0) ∷
+    case (number (cond (isSound (blank 2 4)) 1 0)) (number 1) ∷ case (number (cond (isSound (put (blank 2 4) (handle 31) 1)) 1 0)) (number 0) ∷
+    -- refusals of hold: 7 for the handle and for the name, 9; of drop: 7
+    case (says [] (hold 32 0 0)) (refused 7 0) ∷ case (says [] (hold 0 2 0)) (refused 7 0) ∷ case (says [] (hold 0 0 4)) (refused 7 0) ∷
+    case (says [] (hold 0 0 0)) (refused 9 0) ∷ case (says [] (letting 32)) (refused 7 0) ∷
+    -- a hold on a used handle and a drop of an empty one are accepted
+    case (says (beside ++ (hold 0 0 2 ∷ [])) (hold 0 1 1)) (accepted 0 0 6) ∷ case (says [] (letting 0)) (accepted 0 0 0) ∷
+    [])
+unfolding imaging looping acting judging asking sounding unanchored
+held-rows = (refl, (refl, (refl, (refl, (refl, (refl, (refl, (refl, (refl, (refl, (refl, (refl, (refl, (refl, (refl, (refl, (refl, (refl, (refl, (refl, (refl, (refl, (refl, (refl, tt))))))))))))))))))))))))

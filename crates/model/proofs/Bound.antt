@@ -8,16 +8,16 @@ use native.Mathlib.Omega.{arith}
 use borrow.Author.Tests.{ltb-true}
 use Rattle.loops.proofs.Tests.{clash}
 use Rattle.kinds.specs.declared.Operation.{Operation}
-use Rattle.kinds.specs.declared.Single.the-variants.{Open, Trace, Close, Local}
+use Rattle.kinds.specs.declared.Single.the-variants.{Open, Trace, Close, Local, Hold, Drop}
 use Rattle.model.specs.Image.{Image, Key, flag, state, count, allowance, get}
 use Rattle.model.specs.Acts.{Act, commit, single, localBits, localUp, perform, inside, outside, finish, traceOne, apply}
 use Rattle.model.specs.Judge.{judge}
-use Rattle.model.specs.History.{Run, still, acted, traces, Unclosed, unrooted}
+use Rattle.model.specs.History.{Run, still, acted, traces, Unclosed, unanchored}
 use Rattle.model.proofs.Keys.{Fits, same, get-put-apart, sized-put, get-put-same, sized-length}
 use Rattle.model.proofs.Moves.{Linked}
 use Rattle.model.proofs.Phase.{Phase, open-true}
 use Rattle.model.proofs.Tracing.{MoreMarks, more-inside, more-outside, phase-trace}
-use Rattle.model.proofs.Committing.{check-true, Good, commit-keeps, phase-perform, perform-head}
+use Rattle.model.proofs.Committing.{check-true, Good, commit-keeps, good-hold, good-drop, phase-perform, perform-head}
 use Rattle.model.proofs.Opening.{Shut, open-count, phase-open, open-allows}
 use Rattle.model.proofs.Reaching.{traced-is, opened-is}
 use Rattle.model.specs.Questions.{hasBit}
@@ -82,11 +82,11 @@ module _ (P S : ℕ) (limits : Limits P S) where
       }
 
   -- whatever is committed meanwhile and in whatever order partitions are traced
-  pub counts : (x : Image) → Shut P S limits x → SoundAt P S (apply P S x (single Open)) → (acts : List Act) (y : Image) → Run P S (apply P S x (single Open)) acts y → Unclosed acts → Counted (traces acts) (P + unrooted P S x) y
-  unfolding traces judge apply
+  pub counts : (x : Image) → Shut P S limits x → SoundAt P S (apply P S x (single Open)) → (acts : List Act) (y : Image) → Run P S (apply P S x (single Open)) acts y → Unclosed acts → Counted (traces acts) (P + unanchored P S x) y
+  unfolding traces judge apply perform
   counts x sh so _ _ still u = record { phase = phase-open P S limits x (sh .linked); counted = open-count P S limits x (sh .linked); allowed = open-allows P S limits x sh }
   counts x sh so _ _ (acted {acts = acts} {y = y} (commit os) r j) u =
-      commit-keeps P S (Counted (traces acts) (P + unrooted P S x)) counted-perform y 1 os (check-true _ _ _ _ j .1) (counts x sh so acts y r u)
+      commit-keeps P S (Counted (traces acts) (P + unanchored P S x)) counted-perform y 1 os (check-true _ _ _ _ j .1) (counts x sh so acts y r u)
   counts x sh so _ _ (acted {acts = acts} {y = y} (single Open) r j) u =
       absurd (clash (open-true P S limits y (counts x sh so acts y r u .phase)) (opened-is P S limits y j))
   counts x sh so _ _ (acted {acts = acts} {y = y} (single (Trace p)) r j) u =
@@ -95,8 +95,10 @@ module _ (P S : ℕ) (limits : Limits P S) where
   counts x sh so _ _ (acted {acts = acts} {y = y} (single Close) r j) u = absurd u
   counts x sh so _ _ (acted {acts = acts} {y = y} (single (Local p)) r j) u =
       counted-local y (p .0) _ _ (ltb-true (p .0) P (check-true _ _ _ _ j .0)) (run-kept P S _ so r .sound) (counts x sh so acts y r u)
+  counts x sh so _ _ (acted {acts = acts} {y = y} (single (Hold h n)) r j) u = counted-perform y _ (good-hold P S y h n j) (counts x sh so acts y r u)
+  counts x sh so _ _ (acted {acts = acts} {y = y} (single (Drop h)) r j) u = counted-perform y _ (good-drop P S y h j) (counts x sh so acts y r u)
 
-  pub at-most : (x : Image) → Shut P S limits x → SoundAt P S (apply P S x (single Open)) → (acts : List Act) (y : Image) → Run P S (apply P S x (single Open)) acts y → Unclosed acts → traces acts ≤ P + unrooted P S x
+  pub at-most : (x : Image) → Shut P S limits x → SoundAt P S (apply P S x (single Open)) → (acts : List Act) (y : Image) → Run P S (apply P S x (single Open)) acts y → Unclosed acts → traces acts ≤ P + unanchored P S x
   at-most x sh so acts y r u =
       let g = counts x sh so acts y r u in
       let b = g .phase .budget .within in

@@ -1,4 +1,4 @@
--- Close keeps what a root leads to, and what is marked in a phase is what a chain leads to, so that close frees every other object.
+-- Close keeps what a root or a handle leads to, and what is marked in a phase is what a chain leads to, so that close frees every other object.
 -- Assumes nothing.
 use Prim.Native.Nat.{ℕ, _+_, _*_, _<_}
 use mathlib.Core.Path.{_≡_, refl, sym, ap, _∙_, subst}
@@ -9,26 +9,27 @@ use native.Mathlib.Omega.{arith}
 use native.Mathlib.Decide.{ℕ-discrete}
 use borrow.Author.Tests.{ne-eqb, ltb-true}
 use Rattle.loops.proofs.Tests.{clash}
-use Rattle.kinds.specs.Names.{wordOf}
+use Rattle.kinds.specs.Names.{roots, wordOf}
 use Rattle.kinds.specs.declared.Name.{Name}
+use Rattle.kinds.specs.declared.Handle.{Handle}
 use Rattle.kinds.specs.declared.Target.{Target}
-use Rattle.kinds.specs.declared.Target.the-variants.{Object}
+use Rattle.kinds.specs.declared.Target.the-variants.{Nothing, Object}
 use Rattle.kinds.specs.declared.Operation.{Operation}
 use Rattle.kinds.specs.declared.Operation.the-variants.{New, Set, Val, Root}
-use Rattle.kinds.specs.declared.Single.the-variants.{Open, Trace, Close, Local}
+use Rattle.kinds.specs.declared.Single.the-variants.{Open, Trace, Close, Local, Hold, Drop}
 use Rattle.kinds.specs.declared.Verdict.the-variants.{Accepted}
-use Rattle.model.specs.Image.{Image, Key, root, flag, state, payload, field, count, get, put, place, placeOf, refer, Holder, a-root, a-field}
+use Rattle.model.specs.Image.{Image, Key, anchor, handle, anchors, flag, state, payload, field, count, get, put, place, placeOf, refer, Holder, an-anchor, a-field}
 use Rattle.model.specs.Spread.{start, step}
 use Rattle.model.specs.Acts.{Act, commit, single, localBits, localUp, mark, store, born, perform, performAll, openUp, target, inside, outside, finish, traceOne, apply}
 use Rattle.model.specs.Judge.{judgeOps, led, judge}
 use Rattle.model.specs.History.{Run, still, acted, Unclosed}
-use Rattle.model.specs.Chains.{Names, Leads, Stays, Step, op, push, steps, birth, Above, bare, more, Since, last, before, Chain, from-root, created, stored-field, stored-root, along-held, toOpening, ChainTo}
+use Rattle.model.specs.Chains.{Names, Leads, Stays, Step, op, push, steps, birth, Above, bare, more, Since, last, before, Chain, from-anchor, created, stored-field, stored-root, stored-handle, along-held, toOpening, ChainTo}
 use Rattle.model.proofs.Keys.{Fits, Sized, same, get-put-apart, sized-length}
 use Rattle.model.proofs.Places.{slot-in, word-none, place-word}
 use Rattle.model.proofs.Moves.{Linked, refer-state, refer-read}
 use Rattle.model.proofs.Phase.{Phase, open-true, phase-mark, phase-payload, phase-born}
 use Rattle.model.proofs.Tracing.{mark-read, mark-linked, trace-marks, phase-trace}
-use Rattle.model.proofs.Committing.{check-true, then-true, May, none, some, Good, good-new, good-set, good-val, good-root, good, at-field, no-field, target-used, mark-word-keeps, store-open, phase-store}
+use Rattle.model.proofs.Committing.{check-true, then-true, May, none, some, Good, good-new, good-set, good-val, good-root, good, taking, good-hold, good-drop, at-field, no-field, target-used, mark-word-keeps, store-open, phase-store}
 use Rattle.model.proofs.Opening.{Shut, phase-open, open-marks, open-field}
 use Rattle.model.proofs.Closing.{the-payload, the-field, led-leads, close-state, close-kept}
 use Rattle.model.proofs.Reaching.{traced-is, closed-is, opened-is}
@@ -41,15 +42,15 @@ renamed : {S : ℕ} {x y : Image} {κ : Key} {t : ℕ} → get y κ ≡ get x κ
 renamed e n = record { some = λ q. n .some (e ∙ q); target = rw (← e) (n .target) }
 
 module _ (P S : ℕ) (limits : Limits P S) where
-  -- where 16 finds nothing, what a root leads to is marked
+  -- where 16 finds nothing, what a root or a handle leads to is marked
   leads-marked : (x : Image) → Linked P S x → led P S x ≡ true → (i : ℕ) → Leads S x i → (i < P * S) × (get x (state i) ≡ 2)
-  leads-marked x w e i (start c) = rw (← c .2 .target) (w .refs _ (a-root (c .1)) (c .2 .some) .0, led-leads P S x e _ (a-root (c .1)) tt (c .2 .some))
+  leads-marked x w e i (start c) = rw (← c .2 .target) (w .refs _ (an-anchor (c .1)) (c .2 .some) .0, led-leads P S x e _ (an-anchor (c .1)) tt (c .2 .some))
   leads-marked x w e i (step {i = j} c n) =
       let m = leads-marked x w e j c in
       let h = a-field (m .0) (n .1) in
       rw (← n .2 .target) (w .refs _ h (n .2 .some) .0, led-leads P S x e _ h (m .1) (n .2 .some))
 
-  -- close keeps every object that a root leads to
+  -- close keeps every object that a root or a handle leads to
   pub close-keeps : (x : Image) → Linked P S x → judge P S x (single Close) ≡ Accepted → (i : ℕ) → Leads S x i → Stays x (apply P S x (single Close)) i
   unfolding apply
   close-keeps x w j i l =
@@ -156,6 +157,10 @@ module _ (P S : ℕ) (limits : Limits P S) where
     stored-word h y _ none a ne = absurd (ne word-none)
     stored-word h y _ (some {q = q} lq ls u) a ne = rw (place-word S q (omega arith)) (a q refl)
 
+    -- a root or a handle takes a target
+    chained-anchor : (h : List Step) (y : Image) (a : ℕ) (t : Target) → a < anchors → May P S y t → ((q : Name) → t ≡ Object q → ChainOf h (place S q)) → Chained h y → Chained h (store S y (anchor a) t)
+    chained-anchor h y a t l m b c = chained-store h y (anchor a) t (an-anchor l) (no-field (λ j. get y (state j) ≢ 0)) m (stored-word h y t m b) c
+
     chained-new : (h : List Step) (y : Image) (n : Name) (v : ℕ) → n .partition .0 < P → n .slot .0 < S → get y (state (place S n)) ≡ 0 → Taken (op (New n v)) h → Chained h y
         → Chained (op (New n v) ∷ h) (born y (place S n) v)
     unfolding born birth
@@ -201,8 +206,11 @@ module _ (P S : ℕ) (limits : Limits P S) where
           refs = λ i k t l m n'. c .refs i k t l m (renamed (get-put-apart y (payload (place S n)) v (field i k) tt m refl) n');
         })
     chained-perform h y _ (good-root {r = r} {t = t} lr m) tk c =
-        chained-births h (op (Root r t) ∷ h) _ (λ i. refl)
-        (chained-store h y (root r) _ (a-root lr) (no-field (λ j. get y (state j) ≢ 0)) m (stored-word h y t m (λ q e. stored-root (rw e at tk))) c)
+        chained-births h (op (Root r t) ∷ h) _ (λ i. refl) (chained-anchor h y r t lr m (λ q e. stored-root (rw e at tk)) c)
+
+    -- hold and drop
+    chained-take : (h : List Step) (y : Image) (g : Handle) (t : Target) → Good P S y (taking g t) → ((q : Name) → t ≡ Object q → ChainOf h (place S q)) → Chained h y → Chained h (store S y (handle (g .0)) t)
+    chained-take h y g _ (good-root {t = t} l m) b c = chained-anchor h y (roots + g .0) t l m b c
 
     -- a local collection: no birth changes
     chained-local : (h : List Step) (y : Image) (p : ℕ) (l : p < P) (s : SoundAt P S y) → Chained h y → Chained h (localUp P S p y)
@@ -259,7 +267,7 @@ module _ (P S : ℕ) (limits : Limits P S) where
     chained-open sh =
         record {
           phase = phase-open P S limits x (sh .linked);
-          marks = λ i l e. let q = open-marks P S limits x sh i l e in from-root (q .1) (q .2);
+          marks = λ i l e. let q = open-marks P S limits x sh i l e in from-anchor (q .1) (q .2);
           refs = λ i k t l m n. inr (renamed (open-field P S limits x (sh .linked) i k l m) n, refl, refl);
         }
 
@@ -278,6 +286,13 @@ module _ (P S : ℕ) (limits : Limits P S) where
     chained sh so _ _ (acted {acts = acts} {y = y} (single (Local p)) r j) u sub =
         chained-births (steps acts base) _ _ (λ i. refl)
         (chained-local (steps acts base) y (p .0) (ltb-true (p .0) P (check-true _ _ _ _ j .0)) (run-kept P S _ so r .sound) (chained sh so acts y r u (λ s e q. sub s e (before q))))
+    chained sh so _ _ (acted {acts = acts} {y = y} (single (Hold h n)) r j) u sub =
+        chained-births (steps acts base) _ _ (λ i. refl)
+        (chained-take (steps acts base) y h (Object n) (good-hold P S y h n j)
+        (λ q e. let d : n ≡ q = cc in rw (← d) (stored-handle (sub _ _ (last (above-steps acts))))) (chained sh so acts y r u (λ s e q. sub s e (before q))))
+    chained sh so _ _ (acted {acts = acts} {y = y} (single (Drop h)) r j) u sub =
+        chained-births (steps acts base) _ _ (λ i. refl)
+        (chained-take (steps acts base) y h Nothing (good-drop P S y h j) (λ q e. let z : _≡_ {A = ℕ} 0 1 = cc in absurd (omega arith)) (chained sh so acts y r u (λ s e q. sub s e (before q))))
 
   -- close frees every object that no chain leads to
   pub close-frees : (earlier : List Act) (x : Image) → Shut P S limits x → SoundAt P S (apply P S x (single Open)) → (acts : List Act) (y : Image) → Run P S (apply P S x (single Open)) acts y → Unclosed acts

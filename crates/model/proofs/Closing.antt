@@ -13,7 +13,7 @@ use Rattle.loops.specs.Loop.{each, every}
 use Rattle.loops.proofs.Tests.{both-true, both-false}
 use Rattle.loops.proofs.Loops.{each-keeps, each-reaches, every-true}
 use Rattle.kinds.specs.Names.{mostPartitions}
-use Rattle.model.specs.Image.{Image, Key, head, root, flag, state, payload, field, phase, count, allowance, anchors, get, put, placeOf, release, Holder, a-root, a-field}
+use Rattle.model.specs.Image.{Image, Key, head, anchor, flag, state, payload, field, phase, count, allowance, anchors, get, put, placeOf, release, Holder, an-anchor, a-field}
 use Rattle.model.specs.Acts.{marked, clear, settle, shut, closeUp}
 use Rattle.model.specs.Judge.{leadsOn, led}
 use Rattle.model.specs.Sound.{Limits}
@@ -171,9 +171,9 @@ module _ (n : ℕ) (y : Image) (z : Sized n y) where
   unfolding shut
   shut-allowance = get-put-same n _ allowance 0 (sized-put _ _ _ _ (sized-put _ _ _ _ (sized-unclean n y z))) (omega arith)
 
--- the references that refusal 16 looks at: of the roots, and of the marked objects
+-- the references that refusal 16 looks at: of the roots, of the handles, and of the marked objects
 abbrev pub Leading : (n : ℕ) → Image → (κ : Key) → Holder n κ → Type 0
-Leading n x κ (a-root l) = Unit {0}
+Leading n x κ (an-anchor l) = Unit {0}
 Leading n x κ (a-field {j = i} l m) = get x (state i) ≡ 2
 
 leads-on : (S : ℕ) (x : Image) (κ : Key) → leadsOn S x κ ≡ true → get x κ ≢ 0 → get x (state (placeOf S (get x κ))) ≡ 2
@@ -181,9 +181,9 @@ leads-on S x κ e ne = eqb-true _ _ (rw (ne-eqb (get x κ) 0 ne) at e)
 
 pub led-leads : (P S : ℕ) (x : Image) → led P S x ≡ true → (κ : Key) (h : Holder (P * S) κ) → Leading (P * S) x κ h → get x κ ≢ 0 → get x (state (placeOf S (get x κ))) ≡ 2
 unfolding led
-led-leads P S x e κ (a-root {r = r} l) v ne = leads-on S x κ (every-true anchors _ (both-true (every anchors (λ r. leadsOn S x (root r))) _ e .0) r l) ne
+led-leads P S x e κ (an-anchor {a = r} l) v ne = leads-on S x κ (every-true anchors _ (both-true (every anchors (λ r. leadsOn S x (anchor r))) _ e .0) r l) ne
 led-leads P S x e κ (a-field {j = i} {k = k} l m) v ne =
-    let c : cond (marked x i) (every 4 (λ k. leadsOn S x (field i k))) true ≡ true = every-true (P * S) _ (both-true (every anchors (λ r. leadsOn S x (root r))) _ e .1) i l in
+    let c : cond (marked x i) (every 4 (λ k. leadsOn S x (field i k))) true ≡ true = every-true (P * S) _ (both-true (every anchors (λ r. leadsOn S x (anchor r))) _ e .1) i l in
     leads-on S x κ (every-true 4 _ (rw (eq-eqb (get x (state i)) 2 v) at c) k m) ne
 
 module _ (P S : ℕ) (limits : Limits P S) (x : Image) (w : Linked P S x) where
@@ -225,8 +225,8 @@ module _ (P S : ℕ) (limits : Limits P S) (x : Image) (w : Linked P S x) where
   close-kept {i} c l ne = content-shut _ c ∙ swept-kept (P * S) S x (w .size) i l c ne
 
   -- the words that a close leaves
-  pub close-root : (r : ℕ) → r < anchors → get (closeUp P S x) (root r) ≡ get x (root r)
+  pub close-anchor : (r : ℕ) → r < anchors → get (closeUp P S x) (anchor r) ≡ get x (anchor r)
   unfolding closeUp
-  close-root r l =
-      shut-other _ (root r) l (λ p. refl) (λ h m. refl) ∙
-      swept-away (P * S) S x (P * S) (root r) (λ i m. record { fits = l; state = refl; payload = refl; fields = λ k. refl })
+  close-anchor r l =
+      shut-other _ (anchor r) l (λ p. refl) (λ h m. refl) ∙
+      swept-away (P * S) S x (P * S) (anchor r) (λ i m. record { fits = l; state = refl; payload = refl; fields = λ k. refl })

@@ -1,5 +1,5 @@
--- What a local collection of p makes of every word: who stays, who is freed and how many; and that what a root leads to and every other partition is
--- untouched.
+-- What a local collection of p makes of every word: who stays, who is freed and how many; and that what a root or a handle leads to and every
+-- other partition is untouched.
 -- Assumes nothing.
 use Prim.Native.Nat.{ℕ, zero, suc, _+_, _*_, _-_, _≤_, _<_}
 use mathlib.Core.Path.{_≡_, refl, sym, ap, _∙_, subst}
@@ -11,7 +11,7 @@ use Rattle.loops.specs.Loop.{both, bit, tally}
 use Rattle.loops.proofs.Tests.{clash, lt-or-ge}
 use Rattle.loops.proofs.Loops.{tally-same}
 use Rattle.loops.proofs.Walks.{tally-none-pass}
-use Rattle.model.specs.Image.{Image, Key, head, root, flag, state, payload, inlist, field, isCount, get, placeOf, partOf, Holder}
+use Rattle.model.specs.Image.{Image, Key, head, anchor, flag, state, payload, inlist, field, isCount, anchors, get, placeOf, partOf, Holder}
 use Rattle.model.specs.Acts.{used, localBits, localUp, localFreed}
 use Rattle.model.specs.Questions.{hasBit}
 use Rattle.model.specs.Sound.{Limits, SoundAt}
@@ -19,7 +19,7 @@ use Rattle.model.specs.Effects.{In, KeptIn, Localizes, frees, frees-payl
 use Rattle.model.proofs.Keys.{Sized, sized-length}
 use Rattle.model.proofs.Places.{slot-of, slot-in, part-of}
 use Rattle.model.proofs.Closing.{the-payload, the-field}
-use Rattle.model.proofs.Freeing.{Of, of-state, of-content, NotFreed, free-same, free-gone, free-head, free-flag, free-root}
+use Rattle.model.proofs.Freeing.{Of, of-state, of-content, NotFreed, free-same, free-gone, free-head, free-flag, free-anchor}
 use Rattle.model.proofs.Localizing.{local-so, local-only, local-leads}
 use Rattle.model.proofs.SoundnessMoves.{reference-place}
 use Rattle.model.proofs.SoundnessActs.{local-in, local-apart, local-sound}
@@ -94,10 +94,14 @@ module _ (P S p : ℕ) (l : p < P) (x : Image) (s : SoundAt P S x) where
   unfolding localUp
   local-head h i = free-head P S limits S at stay (local-in P S x s p l) x z (local-apart P S x s p l) h i
 
+  pub local-anchor : (a : ℕ) → a < anchors → get after (anchor a) ≡ get x (anchor a)
+  unfolding localUp
+  local-anchor a i = free-anchor P S limits S at stay (local-in P S x s p l) x z (local-apart P S x s p l) a i
+
   others : (κ : Key) → In (P * S) κ → isCount κ ≡ false → ((v : ℕ) × Localizes S p x κ v) ⊎ (get after κ ≡ get x κ)
   unfolding localUp
   others (head h) i c = inr (local-head h i)
-  others (root r) i c = inr (free-root P S limits S at stay (local-in P S x s p l) x z (local-apart P S x s p l) r i)
+  others (anchor a) i c = inr (local-anchor a i)
   others (flag q) i c = inr (free-flag P S limits S at stay (local-in P S x s p l) x z (local-apart P S x s p l) q i)
   others (state j) i c = slot-word j (state j) of-state frees
   others (payload j) i c = slot-word j (payload j) (of-content the-payload) frees-payload

@@ -11,17 +11,19 @@ use lib.Dec.{eqb, ltb}
 use borrow.Author.Tests.{eqb-true, eqb-false, ne-eqb, not-true, not-false, ltb-true}
 use Rattle.loops.specs.Loop.{both}
 use Rattle.loops.proofs.Tests.{both-true}
-use Rattle.kinds.specs.Names.{roots, wordOf}
+use Rattle.kinds.specs.Names.{roots, handles, wordOf}
 use Rattle.kinds.specs.declared.Name.{Name}
+use Rattle.kinds.specs.declared.Handle.{Handle}
 use Rattle.kinds.specs.declared.Target.{Target}
 use Rattle.kinds.specs.declared.Target.the-variants.{Nothing, Object}
 use Rattle.kinds.specs.declared.Operation.{Operation}
 use Rattle.kinds.specs.declared.Operation.the-variants.{New, Set, Val, Root}
+use Rattle.kinds.specs.declared.Single.the-variants.{Hold, Drop}
 use Rattle.kinds.specs.declared.Verdict.{Verdict}
 use Rattle.kinds.specs.declared.Verdict.the-variants.{Accepted, Refused}
-use Rattle.model.specs.Image.{Image, Key, head, root, state, payload, field, anchors, get, place, placeOf, refer, Holder, a-root, a-field}
-use Rattle.model.specs.Acts.{used, isOpen, mark, markWord, store, born, perform, performAll}
-use Rattle.model.specs.Judge.{check, andThen, inHeap, targetInHeap, targetUsed, judgeOp, judgeOps}
+use Rattle.model.specs.Image.{Image, Key, head, anchor, state, payload, field, anchors, get, place, placeOf, refer, Holder, an-anchor, a-field}
+use Rattle.model.specs.Acts.{single, used, isOpen, mark, markWord, store, born, perform, performAll}
+use Rattle.model.specs.Judge.{check, andThen, inHeap, targetInHeap, targetUsed, judgeOp, judgeOps, judgeName, judge}
 use Rattle.model.specs.Sound.{Limits}
 use Rattle.model.proofs.Keys.{in-fits, get-put-apart, refer-apart}
 use Rattle.model.proofs.Places.{slot-in, word-none, place-word}
@@ -57,7 +59,7 @@ may : (P S : ℕ) (x : Image) (t : Target) → targetInHeap P S t ≡ true → t
 may P S x Nothing r u = none
 may P S x (Object q) r u = let b = in-heap P S q r in some (b .0) (b .1) (used-true x _ u)
 
--- what an accepted operation may rely on
+-- what an accepted operation may rely on (of a root: that it is an anchor, so that hold and drop rely on it too)
 pub data Good (P S : ℕ) (x : Image) : Operation → Type 0 where
   good-new : {n : Name} {v : ℕ} → n .partition .0 < P → n .slot .0 < S → get x (state (place S n)) ≡ 0 → Good P S x (New n v)
   good-set : {n : Name} {k : ℕ} {t : Target} → n .partition .0 < P → n .slot .0 < S → k < 4 → get x (state (place S n)) ≢ 0 → May P S x t → Good P S x (Set n k t)
@@ -87,19 +89,39 @@ good P S x e (Root r t) j =
     let l = ltb-true r roots (b .0) in
     good-root {r = r} (omega arith) (may P S x t (b .1) (check-true _ _ _ _ (a .1) .0))
 
--- whatever each operation keeps, a commit keeps
-pub commit-keeps : (P S : ℕ) (Q : Image → Type 0) → ((x : Image) (o : Operation) → Good P S x o → Q x → Q (perform S x o))
+-- what hold and drop do to the image is what an operation would do on the root that the handle is among the anchors; no accepted commit has it
+abbrev pub taking : Handle → Target → Operation
+taking h t = Root (roots + h .0) t
+
+pub good-hold : (P S : ℕ) (x : Image) (h : Handle) (n : Name) → judge P S x (single (Hold h n)) ≡ Accepted → Good P S x (taking h (Object n))
+unfolding judge judgeName
+good-hold P S x h n j =
+    let a = check-true _ _ _ _ j in
+    let b = check-true _ _ _ _ (a .1) in
+    let l = ltb-true (h .0) handles (a .0) in
+    good-root {r = roots + h .0} (omega arith) (may P S x (Object n) (b .0) (check-true _ _ _ _ (b .1) .0))
+
+pub good-drop : (P S : ℕ) (x : Image) (h : Handle) → judge P S x (single (Drop h)) ≡ Accepted → Good P S x (taking h Nothing)
+unfolding judge
+good-drop P S x h j = let l = ltb-true (h .0) handles (check-true _ _ _ _ j .0) in good-root {r = roots + h .0} (omega arith) none
+
+-- whatever each accepted operation keeps, a commit keeps
+pub judged-keeps : (P S : ℕ) (Q : Image → Type 0) → ((x : Image) (e : ℕ) (o : Operation) → judgeOp P S x e o ≡ Accepted → Q x → Q (perform S x o))
     → (x : Image) (e : ℕ) (os : List Operation) → judgeOps P S x e os ≡ Accepted → Q x → Q (performAll S x os)
 unfolding judgeOps performAll
-commit-keeps P S Q h x e [] j q = q
-commit-keeps P S Q h x e (o ∷ os) j q =
+judged-keeps P S Q h x e [] j q = q
+judged-keeps P S Q h x e (o ∷ os) j q =
     let a = then-true _ _ j in
-    commit-keeps P S Q h (perform S x o) (e + 1) os (a .1) (h x o (good P S x e o (a .0)) q)
+    judged-keeps P S Q h (perform S x o) (e + 1) os (a .1) (h x e o (a .0) q)
+
+pub commit-keeps : (P S : ℕ) (Q : Image → Type 0) → ((x : Image) (o : Operation) → Good P S x o → Q x → Q (perform S x o))
+    → (x : Image) (e : ℕ) (os : List Operation) → judgeOps P S x e os ≡ Accepted → Q x → Q (performAll S x os)
+commit-keeps P S Q h = judged-keeps P S Q (λ x e o j q. h x o (good P S x e o j) q)
 
 pub at-field : (Q : ℕ → Type 0) {i k : ℕ} → Q i → (j c : ℕ) → field i k ≡ field j c → Q j
 at-field Q {i} {k} q j c e = let r : i ≡ j = cc in rw (← r) q
 
-pub no-field : (Q : ℕ → Type 0) {r : ℕ} (j c : ℕ) → root r ≡ field j c → Q j
+pub no-field : (Q : ℕ → Type 0) {r : ℕ} (j c : ℕ) → anchor r ≡ field j c → Q j
 no-field Q j c e = let z : _≡_ {A = ℕ} 0 1 = cc in absurd (omega arith)
 
 module _ (P S : ℕ) (limits : Limits P S) where
@@ -159,7 +181,7 @@ module _ (P S : ℕ) (limits : Limits P S) where
   phase-perform x _ (good-new lp ls e) ph = phase-born P S limits x _ _ (slot-in P S (limits .some-slot) _ _ lp ls) e ph
   phase-perform x _ (good-set lp ls lk u m) ph = phase-store x _ _ (a-field (slot-in P S (limits .some-slot) _ _ lp ls) lk) (at-field (λ j. get x (state j) ≢ 0) u) m ph
   phase-perform x _ (good-val lp ls u) ph = phase-payload P S limits x _ _ (slot-in P S (limits .some-slot) _ _ lp ls) ph
-  phase-perform x _ (good-root lr m) ph = phase-store x _ _ (a-root lr) (no-field (λ j. get x (state j) ≢ 0)) m ph
+  phase-perform x _ (good-root lr m) ph = phase-store x _ _ (an-anchor lr) (no-field (λ j. get x (state j) ≢ 0)) m ph
 
   -- operations leave the heads
   store-head : (x : Image) (κ : Key) (t : Target) (h : ℕ) → h < 5 → Holder (P * S) κ → May P S x t → get (store S x κ t) (head h) ≡ get x (head h)
@@ -177,4 +199,4 @@ module _ (P S : ℕ) (limits : Limits P S) where
   perform-head x _ h l (good-new lp ls e) = get-put-apart _ (payload _) _ (head h) tt l refl ∙ get-put-apart x (state _) _ (head h) tt l refl
   perform-head x _ h l (good-set lp ls lk u m) = store-head x _ _ h l (a-field (slot-in P S (limits .some-slot) _ _ lp ls) lk) m
   perform-head x _ h l (good-val lp ls u) = get-put-apart x (payload _) _ (head h) tt l refl
-  perform-head x _ h l (good-root lr m) = store-head x _ _ h l (a-root lr) m
+  perform-head x _ h l (good-root lr m) = store-head x _ _ h l (an-anchor lr) m

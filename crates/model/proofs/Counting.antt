@@ -12,7 +12,7 @@ use Rattle.loops.specs.Loop.{both, bit, tally}
 use Rattle.loops.proofs.Tests.{both-true, eq-or-ne}
 use Rattle.loops.proofs.Loops.{tally-same, tally-move, tally-some, tally-le}
 use Rattle.loops.proofs.Walks.{tally-none-pass}
-use Rattle.model.specs.Image.{Image, Key, head, root, flag, state, payload, inlist, field, get, put, placeOf, partOf, abroad, oneLess, oneMore, lose, gain, recount, refer, release, Holder, a-root, a-field}
+use Rattle.model.specs.Image.{Image, Key, head, anchor, flag, state, payload, inlist, field, get, put, placeOf, partOf, abroad, oneLess, oneMore, lose, gain, recount, refer, release, Holder, an-anchor, a-field}
 use Rattle.model.specs.Chains.{NamedAbroad}
 use Rattle.model.specs.Sound.{points, inCount, Right, SoundAt}
 use Rattle.model.proofs.Keys.{Fits, Sized, same, get-put-apart, get-put-same, sized-put, refer-apart, refer-same, sized-refer, release-apart, release-same, sized-release, lose-keeps, gain-keeps}
@@ -114,7 +114,7 @@ module _ (n S : ℕ) where
   inlist-release x j k i m z li = get-put-apart (recount S x (field j k) 0) (field j k) 0 (inlist i) m tt refl ∙ recounted x j k 0 i z li
 
   pub right-refer : (x : Image) (κ : Key) (w : ℕ) → Holder n κ → Sized n x → Right n S x → Right n S (refer S x κ w)
-  right-refer x _ w (a-root {r = r} l) z q = right-reads x _ (λ i k m. refer-apart S x (root r) w (field i k) l m refl) (λ i. refer-apart S x (root r) w (inlist i) l tt refl) q
+  right-refer x _ w (an-anchor {a = r} l) z q = right-reads x _ (λ i k m. refer-apart S x (anchor r) w (field i k) l m refl) (λ i. refer-apart S x (anchor r) w (inlist i) l tt refl) q
   right-refer x _ w (a-field {j = j} {k = k} l m) z q =
       record {
         counts = λ i li.
@@ -126,7 +126,7 @@ module _ (n S : ℕ) where
       }
 
   pub right-release : (x : Image) (κ : Key) → Holder n κ → Sized n x → Right n S x → Right n S (release S x κ)
-  right-release x _ (a-root {r = r} l) z q = right-reads x _ (λ i k m. release-apart S x (root r) (field i k) l m refl) (λ i. release-apart S x (root r) (inlist i) l tt refl) q
+  right-release x _ (an-anchor {a = r} l) z q = right-reads x _ (λ i k m. release-apart S x (anchor r) (field i k) l m refl) (λ i. release-apart S x (anchor r) (inlist i) l tt refl) q
   right-release x _ (a-field {j = j} {k = k} l m) z q =
       record {
         counts = λ i li.

@@ -1,5 +1,5 @@
--- Demand 3, whole, over histories from a formatting: however commits, traces and local collections are mixed, a phase ends within P + W traces, and its close keeps every object
--- that a root leads to and frees every object that no chain leads to.
+-- Demand 3, whole, over histories from a formatting: however commits, traces, local collections, holds and drops are mixed, a phase ends within P + W
+-- traces, and its close keeps every object that a root or a handle leads to and frees every object that no chain leads to.
 -- Assumes nothing.
 use Prim.Native.Nat.{ℕ, _+_, _*_, _≤_, _<_}
 use mathlib.Core.Path.{_≡_}
@@ -15,7 +15,7 @@ use Rattle.model.specs.Image.{Image, flag, state, count, get}
 use Rattle.model.specs.Acts.{Act, single, notClean, apply}
 use Rattle.model.specs.Judge.{inLimits, rooted, judge}
 use Rattle.model.specs.Sound.{isSound}
-use Rattle.model.specs.History.{Run, still, acted, traces, unrooted}
+use Rattle.model.specs.History.{Run, still, acted, traces, unanchored}
 use Rattle.model.specs.Chains.{Leads, Stays, ChainToBorn, ChainTo, birthNow}
 use Rattle.model.proofs.Soundness.{limits-true}
 use Rattle.model.proofs.SoundnessActs.{act-sound, reached-passes}
@@ -28,8 +28,8 @@ use Rattle.model.proofs.Progress.{Ends, progress}
 
 -- x is the heap at an accepted opening, after the history `earlier`; y is the heap in the phase, after the acts since
 pub record Demand-3 (P S : ℕ) (earlier : List Act) (x : Image) (acts : List Act) (y : Image) : Type 0 where
-  -- at most P + W traces, W being the objects in use that no root names at the opening; and word 3 is their number
-  pub bound : traces acts ≤ P + unrooted P S x
+  -- at most P + W traces, W being the objects in use that neither a root nor a handle names at the opening; and word 3 is their number
+  pub bound : traces acts ≤ P + unanchored P S x
   pub counted : get y count ≡ traces acts
   -- no refusal stands in the way: not 1, 13 or 15 of a trace, nor 1, 10, 14 or 16 of a close
   pub sound : isSound y ≡ true
@@ -44,7 +44,7 @@ pub record Demand-3 (P S : ℕ) (earlier : List Act) (x : Image) (acts : List Ac
       → (get (apply P S y (single Close)) (state j) ≡ 0) ⊎ (birthNow S earlier acts j ≢ b)
   pub sound-after : judge P S y (single Close) ≡ Accepted → isSound (apply P S y (single Close)) ≡ true
   -- tracing the lowest partition that is not clean, again and again, ends within the bound, and then the phase can close if a root is in use
-  pub progress : Ends P S (P + unrooted P S x) y
+  pub progress : Ends P S (P + unanchored P S x) y
 
 pub run-append : {P S : ℕ} {x y z : Image} {earlier : List Act} (later : List Act) → Run P S x earlier y → Run P S y later z → Run P S x (later ++ earlier) z
 run-append _ r still = r

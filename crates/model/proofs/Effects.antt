@@ -15,28 +15,30 @@ use Rattle.loops.proofs.Tests.{clash, eq-or-ne}
 use Rattle.loops.proofs.Loops.{tally-same}
 use Rattle.kinds.specs.Names.{mostPartitions, wordOf}
 use Rattle.kinds.specs.declared.Name.{Name}
+use Rattle.kinds.specs.declared.Handle.{Handle}
 use Rattle.kinds.specs.declared.Target.{Target}
-use Rattle.kinds.specs.declared.Target.the-variants.{Object}
+use Rattle.kinds.specs.declared.Target.the-variants.{Nothing, Object}
 use Rattle.kinds.specs.declared.Operation.{Operation}
 use Rattle.kinds.specs.declared.Operation.the-variants.{New, Set, Val, Root}
-use Rattle.kinds.specs.declared.Single.the-variants.{Open, Trace, Close, Local}
+use Rattle.kinds.specs.declared.Single.the-variants.{Open, Trace, Close, Local, Hold, Drop}
 use Rattle.kinds.specs.declared.Verdict.the-variants.{Accepted}
-use Rattle.model.specs.Image.{Image, Key, head, root, flag, state, payload, inlist, field, isCount, phase, count, allowance, get, put, lengthOf, size, place, placeOf, partOf, Holder, a-root, a-field}
+use Rattle.model.specs.Image.{Image, Key, head, anchor, handle, flag, state, payload, inlist, field, isCount, phase, count, allowance, get, put, lengthOf, size, place, placeOf, partOf, Holder, an-anchor, a-field}
 use Rattle.model.specs.Spread.{Reach, start, step}
-use Rattle.model.specs.Acts.{Act, commit, single, marked, isOpen, mark, markWord, store, born, perform, performAll, unmarked, markRoots, openUp, inside, outside, finish, traceOne, closeUp, apply, own, foreign, target}
+use Rattle.model.specs.Acts.{Act, commit, single, marked, isOpen, mark, markWord, store, born, perform, performAll, unmarked, markAnchors, openUp, inside, outside, finish, traceOne, closeUp, apply, own, foreign, target}
 use Rattle.model.specs.Judge.{judgeOps, judge}
 use Rattle.model.specs.Chains.{Names}
 use Rattle.model.specs.Sound.{Limits, SoundAt}
-use Rattle.model.specs.Effects.{In, Leaves, Stores, StoresUnmarked, Performs, new-state, new-payload, new-field, val, set, root-to, marks-stored, uncleans-stored, Performed, Committed, nothing-more, and-then}
-use Rattle.model.specs.Effects.{Opens, marks-rooted, uncleans-all, opens, restarts, allows, Opened, Within, Beyond, Traces, marks-within, marks-beyond, uncleans-beyond, cleans, counts, Closes, frees, frees-payload, frees-field, unmarks, shuts, flags-down, freed, Effect}
+use Rattle.model.specs.Effects.{In, Leaves, Stores, Unmarked, Performs, new-state, new-payload, new-field, val, set, root-to, marks-stored, uncleans-stored, Performed, Committed, nothing-more, and-then}
+use Rattle.model.specs.Effects.{Opens, marks-anchored, uncleans-all, opens, restarts, allows, Opened, Within, Beyond, Traces, marks-within, marks-beyond, uncleans-beyond, cleans, counts, Closes, frees, frees-payload, frees-field, unmarks, shuts, flags-down, freed}
+use Rattle.model.specs.Effects.{Takes, takes, marks-held, uncleans-held, Took, Effect}
 use Rattle.model.proofs.Keys.{Fits, NoCount, same, in-fits, get-put-apart, sized-put, words-same, sized-length}
 use Rattle.model.proofs.Places.{parts, part-of, slot-in, slot-of, word-none, place-word}
 use Rattle.model.proofs.Holders.{holder-in, holder-state, holder-flag}
 use Rattle.model.proofs.Moves.{Linked, newMark-state, newMark-flag, mark-keeps, unclean-other, unclean-flag}
 use Rattle.model.proofs.Tracing.{mark-read, mark-linked, mark-marks, mark-flag, MoreMarks, more-none, more-mark, more-field, pass-marks, spread-marks, more-inside, more-outside, Own, inside-all, outside-all}
-use Rattle.model.proofs.Committing.{check-true, then-true, May, none, some, Good, good-new, good-set, good-val, good-root, good, target-used, mark-word-keeps}
-use Rattle.model.proofs.Opening.{started, ready-roots, roots-marked, open-other, open-count, open-allowance, open-started, roots-keep}
-use Rattle.model.proofs.Closing.{Content, the-payload, the-field, close-phase, close-count, close-allowance, close-flag, close-state, close-freed, close-kept, close-root}
+use Rattle.model.proofs.Committing.{check-true, then-true, May, none, some, Good, good-new, good-set, good-val, good-root, good, taking, good-hold, good-drop, target-used, mark-word-keeps}
+use Rattle.model.proofs.Opening.{started, ready-anchors, anchors-marked, open-other, open-count, open-allowance, open-started, anchors-keep}
+use Rattle.model.proofs.Closing.{Content, the-payload, the-field, close-phase, close-count, close-allowance, close-flag, close-state, close-freed, close-kept, close-anchor}
 use Rattle.model.proofs.SoundnessMoves.{Written, put-written, refer-written, written-read, sound-linked}
 use Rattle.model.proofs.SoundnessActs.{act-sound, act-partitions, act-slots, holds-perform}
 use Rattle.model.proofs.Counting.{count-reads}
@@ -138,8 +140,8 @@ module _ (P S : ℕ) (x : Image) (s : SoundAt P S x) where
         go _ _ i new-payload = alive .here
         go _ _ i (new-field {k = k}) =
             alive .others (field (place S n) k) (i .1) refl ∙ in-use .others (field (place S n) k) (i .1) refl ∙ s .free-slots (place S n) l free .fields k (i .1)
-        go _ _ i (marks-stored d) = absurd (d .stores)
-        go _ _ i (uncleans-stored d) = absurd (d .stores)
+        go _ _ i (marks-stored t d) = absurd t
+        go _ _ i (uncleans-stored t d) = absurd t
 
   val-words : (n : Name) (v : ℕ) → place S n < P * S → Words (Val n v) (put x (payload (place S n)) v)
   val-words n v l = record { written = go; others = others-put (Performs S x (Val n v)) x (v, val) a (others-none (Performs S x (Val n v)) x) }
@@ -149,8 +151,8 @@ module _ (P S : ℕ) (x : Image) (s : SoundAt P S x) where
 
       go : (κ : Key) (w : ℕ) → In (P * S) κ → Performs S x (Val n v) κ w → get (put x (payload (place S n)) v) κ ≡ w
       go _ _ i val = a .here
-      go _ _ i (marks-stored d) = absurd (d .stores)
-      go _ _ i (uncleans-stored d) = absurd (d .stores)
+      go _ _ i (marks-stored t d) = absurd t
+      go _ _ i (uncleans-stored t d) = absurd t
 
   -- a target that is stored: its numbers and its place
   record Place (t : Target) (q : Name) : Type 0 where
@@ -170,7 +172,7 @@ module _ (P S : ℕ) (x : Image) (s : SoundAt P S x) where
   -- an operation that stores a target
   data Storing : Operation → Key → Target → Type 0 where
     by-set : {n : Name} {k : ℕ} {t : Target} → Storing (Set n k t) (field (place S n) k) t
-    by-root : {r : ℕ} {t : Target} → Storing (Root r t) (root r) t
+    by-root : {r : ℕ} {t : Target} → Storing (Root r t) (anchor r) t
 
   storing-writes : {o : Operation} {κ : Key} {t : Target} → Storing o κ t → Performs S x o κ (wordOf t)
   storing-writes by-set = set
@@ -182,13 +184,13 @@ module _ (P S : ℕ) (x : Image) (s : SoundAt P S x) where
 
   -- what it writes: the target's word, and where the target is newly marked, its mark and its partition's flag
   storing-only : {o : Operation} {κ : Key} {t : Target} → Storing o κ t → (y : Image) → get y κ ≡ wordOf t
-      → ((q : Name) → StoresUnmarked S x o q → (get y (state (place S q)) ≡ 2) × (get y (flag (q .partition .0)) ≡ 0)) → (μ : Key) (v : ℕ) → Performs S x o μ v → get y μ ≡ v
+      → ((q : Name) → Stores o q → Unmarked S x q → (get y (state (place S q)) ≡ 2) × (get y (flag (q .partition .0)) ≡ 0)) → (μ : Key) (v : ℕ) → Performs S x o μ v → get y μ ≡ v
   storing-only by-set y a m _ _ set = a
-  storing-only by-set y a m _ _ (marks-stored {q = q} d) = m q d .0
-  storing-only by-set y a m _ _ (uncleans-stored {q = q} d) = m q d .1
+  storing-only by-set y a m _ _ (marks-stored {q = q} b d) = m q b d .0
+  storing-only by-set y a m _ _ (uncleans-stored {q = q} b d) = m q b d .1
   storing-only by-root y a m _ _ root-to = a
-  storing-only by-root y a m _ _ (marks-stored {q = q} d) = m q d .0
-  storing-only by-root y a m _ _ (uncleans-stored {q = q} d) = m q d .1
+  storing-only by-root y a m _ _ (marks-stored {q = q} b d) = m q b d .0
+  storing-only by-root y a m _ _ (uncleans-stored {q = q} b d) = m q b d .1
 
   module _ (o : Operation) (κ : Key) (t : Target) (c : Storing o κ t) (h : Holder (P * S) κ) (may : May P S x t) where
     -- while a phase is open the target is marked first
@@ -209,16 +211,17 @@ module _ (P S : ℕ) (x : Image) (s : SoundAt P S x) where
             let p = may-place t may ne in
             marking-mark (Performs S x o) x P S limits x _ (target-used P S limits x t may ne .0)
             (λ one.
-            let d : StoresUnmarked S x o (p .0) = record { stores = storing-stores c (p .0) .0 (p .1 .is); opened = eqb-true _ _ e; unmarked = rw (p .1 .word) at one } in
-            rw (p .1 .word, part-of P S (limits .some-slot) _ _ (p .1 .slot)) ((2, marks-stored d), (0, uncleans-stored d)))
+            let b = storing-stores c (p .0) .0 (p .1 .is) in
+            let d : Unmarked S x (p .0) = record { opened = eqb-true _ _ e; unmarked = rw (p .1 .word) at one } in
+            rw (p .1 .word, part-of P S (limits .some-slot) _ _ (p .1 .slot)) ((2, marks-stored b d), (0, uncleans-stored b d)))
             bare)
             (λ z. bare)
         go false e = bare
 
-    module _ (q : Name) (d : StoresUnmarked S x o q) where
+    module _ (q : Name) (b : Stores o q) (d : Unmarked S x q) where
       target-place : Place t q
       target-place =
-          let e : t ≡ Object q = storing-stores c q .1 (d .stores) in
+          let e : t ≡ Object q = storing-stores c q .1 b in
           let p = may-place t may (λ z. object-word q (ap wordOf (sym e) ∙ z)) in
           let i : t ≡ Object (p .0) = p .1 .is in
           let r : p .0 ≡ q = cc in
@@ -248,9 +251,9 @@ module _ (P S : ℕ) (x : Image) (s : SoundAt P S x) where
         record {
           written = λ μ v i e.
               storing-only c (store S x κ t) (a .here)
-              (λ q d. (
-                a .others (state (place S q)) tt (holder-state h _) ∙ target-state q d,
-                a .others (flag (q .partition .0)) (omega (arith, target-place q d .partition, limits .partitions-most)) (holder-flag h _) ∙ target-flag q d,
+              (λ q b d. (
+                a .others (state (place S q)) tt (holder-state h _) ∙ target-state q b d,
+                a .others (flag (q .partition .0)) (omega (arith, target-place q b d .partition, limits .partitions-most)) (holder-flag h _) ∙ target-flag q b d,
               )) μ v e;
           others = others-put (Performs S x o) x (wordOf t, storing-writes c) a (target-marking .others);
         }
@@ -261,9 +264,9 @@ module _ (P S : ℕ) (x : Image) (s : SoundAt P S x) where
   words _ (good-new {n = n} {v = v} l m e) = new-words n v (slot-in P S (limits .some-slot) _ _ l m) e
   words _ (good-set {n = n} {k = k} {t = t} l m b u d) = store-words _ _ t by-set (a-field (slot-in P S (limits .some-slot) _ _ l m) b) d
   words _ (good-val {n = n} {v = v} l m u) = val-words n v (slot-in P S (limits .some-slot) _ _ l m)
-  words _ (good-root {t = t} l d) = store-words _ _ t by-root (a-root l) d
+  words _ (good-root {t = t} l d) = store-words _ _ t by-root (an-anchor l) d
 
-  performed : (o : Operation) → Good P S x o → Performed P S x o (perform S x o)
+  pub performed : (o : Operation) → Good P S x o → Performed P S x o (perform S x o)
   performed o g =
       let w = words o g in
       let y = holds-perform P S x o g s .sound in
@@ -273,21 +276,21 @@ module _ (P S : ℕ) (x : Image) (s : SoundAt P S x) where
   open-flag : (p : ℕ) → p < mostPartitions → get (openUp P S x) (flag p) ≡ 0
   open-flag p l =
       open-other P S limits x (flag p) l refl refl ∙
-      roots-keep P S limits (λ z. Linked P S z × (get z (flag p) ≡ 0)) (λ z q. q .0) (λ z t m q. (mark-linked P S limits z t m (q .0), mark-flag P S limits z t p m l (q .0) (q .1))) _
+      anchors-keep P S limits (λ z. Linked P S z × (get z (flag p) ≡ 0)) (λ z q. q .0) (λ z t m q. (mark-linked P S limits z t m (q .0), mark-flag P S limits z t p m l (q .0) (q .1))) _
       (open-started P S limits x linked, unclean-flag (P * S) _ (sized-put _ _ _ _ (linked .size)) p l) .1
 
   open-kept : (μ : Key) → Fits μ → ((j : ℕ) → same (state j) μ ≡ false) → ((p : ℕ) → same (flag p) μ ≡ false) → ((h : ℕ) → 2 ≤ h → same (head h) μ ≡ false) → get (openUp P S x) μ ≡ get x μ
   open-kept μ f a b c =
       open-other P S limits x μ f (c 3 (omega arith)) (c 4 (omega arith)) ∙
-      roots-keep P S limits (MoreMarks P S limits (started P S limits x)) (λ z q. q .linked) (λ z t m q. more-mark P S limits _ z t m q) _ (more-none P S limits _ (open-started P S limits x linked)) .words μ f a b ∙
+      anchors-keep P S limits (MoreMarks P S limits (started P S limits x)) (λ z q. q .linked) (λ z t m q. more-mark P S limits _ z t m q) _ (more-none P S limits _ (open-started P S limits x linked)) .words μ f a b ∙
       unclean-other _ μ f b ∙ get-put-apart x phase 1 μ (omega arith) f (c 2 (omega arith))
 
   open-written : (κ : Key) (v : ℕ) → In (P * S) κ → Opens P S x (openUp P S x) κ v → get (openUp P S x) κ ≡ v
   unfolding unmarked
-  open-written _ _ i (marks-rooted {r = r} l n) =
-      open-other P S limits x (state _) tt refl refl ∙ subst (λ (t : ℕ). get (markRoots S (started P S limits x)) (state t) ≡ 2) (n .target) (roots-marked P S limits x linked r l (n .some))
+  open-written _ _ i (marks-anchored {a = r} l n) =
+      open-other P S limits x (state _) tt refl refl ∙ subst (λ (t : ℕ). get (markAnchors S (started P S limits x)) (state t) ≡ 2) (n .target) (anchors-marked P S limits x linked r l (n .some))
   open-written _ _ i (uncleans-all {p = p}) = open-flag p i
-  open-written _ _ i opens = open-other P S limits x phase (omega arith) refl refl ∙ ready-roots P S limits x linked .opened
+  open-written _ _ i opens = open-other P S limits x phase (omega arith) refl refl ∙ ready-anchors P S limits x linked .opened
   open-written _ _ i restarts = open-count P S limits x linked
   open-written _ _ i allows =
       open-allowance P S limits x linked ∙
@@ -298,11 +301,11 @@ module _ (P S : ℕ) (x : Image) (s : SoundAt P S x) where
       head-cases (λ h. Some (Opens P S x (openUp P S x)) (head h) ⊎ (get (openUp P S x) (head h) ≡ get x (head h)))
       (inr (open-kept (head 0) (omega arith) (λ j. refl) (λ p. refl) (λ h l. ne-eqb h 0 (λ e. omega arith))))
       (inr (open-kept (head 1) (omega arith) (λ j. refl) (λ p. refl) (λ h l. ne-eqb h 1 (λ e. omega arith)))) (inl (1, opens)) (inl (0, restarts)) (inl (_, allows)) h i
-  open-others (root r) i c = inr (open-kept (root r) i (λ j. refl) (λ p. refl) (λ h l. refl))
+  open-others (anchor r) i c = inr (open-kept (anchor r) i (λ j. refl) (λ p. refl) (λ h l. refl))
   open-others (flag p) i c = inl (0, uncleans-all)
   open-others (state j) i c =
       let e = open-other P S limits x (state j) tt refl refl in
-      ⊎-elim (λ q. inr (e ∙ q)) (λ q. inl (2, marks-rooted (q .1 .1) (q .1 .2))) (ready-roots P S limits x linked .states j)
+      ⊎-elim (λ q. inr (e ∙ q)) (λ q. inl (2, marks-anchored (q .1 .1) (q .1 .2))) (ready-anchors P S limits x linked .states j)
   open-others (payload j) i c = inr (open-kept (payload j) tt (λ j. refl) (λ p. refl) (λ h l. refl))
   open-others (field j k) i c = inr (open-kept (field j k) (i .1) (λ j. refl) (λ p. refl) (λ h l. refl))
   open-others (inlist j) i c = absurd (clash refl c)
@@ -421,7 +424,7 @@ module _ (P S : ℕ) (x : Image) (s : SoundAt P S x) where
   close-others a (head h) i c =
       head-cases (λ h. Some (Closes x) (head h) ⊎ (get (closeUp P S x) (head h) ≡ get x (head h))) (inr (act-partitions P S x (single Close) s a)) (inr (act-slots P S x (single Close) s a))
       (inl (0, shuts (omega arith))) (inl (0, shuts (omega arith))) (inl (0, shuts (omega arith))) h i
-  close-others a (root r) i c = inr (close-root P S limits x linked r i)
+  close-others a (anchor r) i c = inr (close-anchor P S limits x linked r i)
   close-others a (flag p) i c = inl (0, flags-down)
   close-others a (state j) i c =
       let c = close-state P S limits x linked j i in
@@ -440,6 +443,28 @@ module _ (P S : ℕ) (x : Image) (s : SoundAt P S x) where
       by (suc zero) b l e = rw e
       by (suc (suc zero)) b l e = rw e
       by (suc (suc (suc a))) b l e = absurd (omega arith)
+
+-- HOLD and DROP: what an operation on the handle's anchor writes
+takes-performs : {S : ℕ} {x : Image} {h : Handle} {t : Target} (κ : Key) (v : ℕ) → Takes S x h t κ v → Performs S x (taking h t) κ v
+takes-performs _ _ takes = root-to
+takes-performs _ _ (marks-held d) = marks-stored refl d
+takes-performs _ _ (uncleans-held d) = uncleans-stored refl d
+
+performs-takes : {S : ℕ} {x : Image} {h : Handle} {t : Target} (κ : Key) (v : ℕ) → Performs S x (taking h t) κ v → Takes S x h t κ v
+performs-takes _ _ root-to = takes
+performs-takes _ _ (marks-stored e d) = rw e (marks-held d)
+performs-takes _ _ (uncleans-stored e d) = rw e (uncleans-held d)
+
+pub took : (P S : ℕ) (x : Image) (h : Handle) (t : Target) → SoundAt P S x → Good P S x (taking h t) → Took P S h t x (store S x (handle (h .0)) t)
+unfolding perform
+took P S x h t s g =
+    let a = performed P S x s (taking h t) g in
+    record {
+      written = λ κ v i w. a .written κ v i (takes-performs κ v w);
+      others = λ κ i c. ⊎-elim (λ w. inl (w .0, performs-takes κ (w .0) (w .1))) (λ e. inr e) (a .others κ i c);
+      right = a .right;
+      length = a .length;
+    }
 
 committed : (P S : ℕ) (x : Image) (e : ℕ) (os : List Operation) → SoundAt P S x → judgeOps P S x e os ≡ Accepted → Committed P S x os (performAll S x os)
 unfolding judgeOps performAll
@@ -472,6 +497,8 @@ effect P S x (single Close) s j =
       number = close-number P S x s;
     }
 effect P S x (single (Local p)) s j = localized P S (p .0) (ltb-true (p .0) P (check-true _ _ _ _ j .0)) x s
+effect P S x (single (Hold h n)) s j = took P S x h (Object n) s (good-hold P S x h n j)
+effect P S x (single (Drop h)) s j = took P S x h Nothing s (good-drop P S x h j)
 
 -- NO SECOND IMAGE: x alone says every word of y
 leaves-agree : (n S : ℕ) (x : Image) (W U : Key → ℕ → Type 0) (y z : Image) → Leaves n S x W y → Leaves n S x U z
@@ -494,7 +521,7 @@ module _ (P S : ℕ) where
       go (inlist j) i true c =
           g .right .counts j i ∙ count-reads (P * S) S y z (λ i k li m. agree (field i k) (li, m) refl) j ∙ sym (h .right .counts j i)
       go (head h) i true c = absurd (clash c refl)
-      go (root r) i true c = absurd (clash c refl)
+      go (anchor r) i true c = absurd (clash c refl)
       go (flag p) i true c = absurd (clash c refl)
       go (state j) i true c = absurd (clash c refl)
       go (payload j) i true c = absurd (clash c refl)
@@ -507,10 +534,10 @@ module _ (P S : ℕ) where
 
   -- the allowance counts the states of y, which x says
   opens-state : {x y z : Image} (j v : ℕ) → Opens P S x y (state j) v → Opens P S x z (state j) v
-  opens-state j _ (marks-rooted l n) = marks-rooted l n
+  opens-state j _ (marks-anchored l n) = marks-anchored l n
 
   opens-same : {x y z : Image} → unmarked (P * S) y ≡ unmarked (P * S) z → (κ : Key) (v : ℕ) → Opens P S x y κ v → Opens P S x z κ v
-  opens-same e _ _ (marks-rooted l n) = marks-rooted l n
+  opens-same e _ _ (marks-anchored l n) = marks-anchored l n
   opens-same e _ _ uncleans-all = uncleans-all
   opens-same e _ _ opens = opens
   opens-same e _ _ restarts = restarts
@@ -529,3 +556,5 @@ module _ (P S : ℕ) where
   effect-once x y z (single (Trace p)) e g h = leaves-once x _ _ y z e (λ κ v w. w) (λ κ v w. w) g h
   effect-once x y z (single Close) e g h = leaves-once x _ _ y z e (λ κ v w. w) (λ κ v w. w) (g .words) (h .words)
   effect-once x y z (single (Local p)) e g h = leaves-once x _ _ y z e (λ κ v w. w) (λ κ v w. w) (g .words) (h .words)
+  effect-once x y z (single (Hold h n)) e g h' = leaves-once x _ _ y z e (λ κ v w. w) (λ κ v w. w) g h'
+  effect-once x y z (single (Drop h)) e g h' = leaves-once x _ _ y z e (λ κ v w. w) (λ κ v w. w) g h'

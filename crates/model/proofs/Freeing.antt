@@ -1,4 +1,5 @@
--- Slots freed, all but those that stay: what becomes of every word; and where roots and what stays refer to what stays, soundness and the phase go on.
+-- Slots freed, all but those that stay: what becomes of every word; and where roots, handles and what stays refer to what stays,
+-- soundness and the phase go on.
 -- Assumes nothing.
 use Prim.Native.Nat.{ℕ, zero, suc, _*_, _≤_, _<_}
 use mathlib.Core.Path.{_≡_, refl, sym, ap, _∙_, subst}
@@ -12,7 +13,7 @@ use Rattle.loops.specs.Loop.{each}
 use Rattle.loops.proofs.Tests.{clash}
 use Rattle.loops.proofs.Loops.{each-keeps}
 use Rattle.kinds.specs.Names.{mostPartitions}
-use Rattle.model.specs.Image.{Image, Key, head, root, flag, state, payload, field, count, allowance, anchors, get, put, placeOf, partOf, Holder, a-root, a-field}
+use Rattle.model.specs.Image.{Image, Key, head, anchor, flag, state, payload, field, count, allowance, anchors, get, put, placeOf, partOf, Holder, an-anchor, a-field}
 use Rattle.model.specs.Acts.{notClean, unmarked, clear, freeBut}
 use Rattle.model.specs.Chains.{Names}
 use Rattle.model.specs.Sound.{Limits, NamesUsed, Right, SoundAt}
@@ -39,8 +40,8 @@ away-of m i _ ne (of-content c) = away-content m c ne
 pub away-head : (h i : ℕ) → h < 5 → Away i (head h)
 away-head h i l = record { fits = l; state = refl; payload = refl; fields = λ k. refl }
 
-pub away-root : (r i : ℕ) → r < anchors → Away i (root r)
-away-root r i l = record { fits = l; state = refl; payload = refl; fields = λ k. refl }
+pub away-anchor : (r i : ℕ) → r < anchors → Away i (anchor r)
+away-anchor r i l = record { fits = l; state = refl; payload = refl; fields = λ k. refl }
 
 pub away-flag : (p i : ℕ) → p < mostPartitions → Away i (flag p)
 away-flag p i l = record { fits = l; state = refl; payload = refl; fields = λ k. refl }
@@ -114,10 +115,10 @@ module _ (P S m : ℕ) (at : ℕ → ℕ) (stay : ℕ → Bool) where
   abbrev pub Freed : ℕ → Type 0
   Freed i = (j : ℕ) × (j < m) × (at j ≡ i) × (stay i ≡ false)
 
-  -- what roots name stays, and what a slot that stays refers to stays
+  -- what roots and handles name stays, and what a slot that stays refers to stays
   pub record Apart (x : Image) : Type 0 where
     pub choice : (i : ℕ) → NotFreed i ⊎ Freed i
-    pub roots : (r t : ℕ) → r < anchors → Names S x (root r) t → NotFreed t
+    pub anchored : (r t : ℕ) → r < anchors → Names S x (anchor r) t → NotFreed t
     pub fields : (i k t : ℕ) → i < P * S → k < 4 → NotFreed i → Names S x (field i k) t → NotFreed t
 
 -- a slot cleared: the count of unmarked objects does not rise
@@ -157,8 +158,8 @@ module _ (P S : ℕ) (limits : Limits P S) where
       pub free-flag : (p : ℕ) → p < mostPartitions → get y (flag p) ≡ get x (flag p)
       free-flag p l = but-other (P * S) S m at stay x inn size (flag p) (λ i. away-flag p i l)
 
-      pub free-root : (r : ℕ) → r < anchors → get y (root r) ≡ get x (root r)
-      free-root r l = but-other (P * S) S m at stay x inn size (root r) (λ i. away-root r i l)
+      pub free-anchor : (r : ℕ) → r < anchors → get y (anchor r) ≡ get x (anchor r)
+      free-anchor r l = but-other (P * S) S m at stay x inn size (anchor r) (λ i. away-anchor r i l)
 
       pub free-size : Sized (P * S) y
       free-size = but-size (P * S) S m at stay x inn size
@@ -168,7 +169,7 @@ module _ (P S : ℕ) (limits : Limits P S) where
       stayed i ne = ⊎-elim (λ s. s) (λ f. absurd (ne (free-gone i (state i) of-state f))) (a .choice i)
 
       pub kept-ref : (κ : Key) → Holder (P * S) κ → get y κ ≢ 0 → (get y κ ≡ get x κ) × NotFreed P S m at stay (placeOf S (get x κ))
-      kept-ref κ (a-root {r = r} l) ne = let e = free-root r l in (e, a .roots r _ l (record { some = λ q. ne (e ∙ q); target = refl }))
+      kept-ref κ (an-anchor {a = r} l) ne = let e = free-anchor r l in (e, a .anchored r _ l (record { some = λ q. ne (e ∙ q); target = refl }))
       kept-ref κ (a-field {j = i} {k = k} l lk) ne =
           ⊎-elim (λ s. let f = free-same i (field i k) (of-content (the-field lk)) s in (f, a .fields i k _ l lk s (record { some = λ q. ne (f ∙ q); target = refl })))
           (λ f. absurd (ne (free-gone i (field i k) (of-content (the-field lk)) f))) (a .choice i)
@@ -194,7 +195,7 @@ module _ (P S : ℕ) (limits : Limits P S) where
           }
 
       live-before : (κ : Key) (h : Holder (P * S) κ) → Live (P * S) S y κ h → Live (P * S) S x κ h
-      live-before κ (a-root l) v = tt
+      live-before κ (an-anchor l) v = tt
       live-before κ (a-field {j = i} l lk) v =
           let s = stayed i (λ q. let two = v .0 in omega arith) in
           (sym (free-same i _ of-state s) ∙ v .0, λ z. let q = parts P S (limits .some-slot) i l in v .1 (free-flag (partOf S i) (omega arith) ∙ z))

@@ -14,14 +14,15 @@ use borrow.Author.Tests.{lt-ltb, le-ltb, eq-eqb, ne-eqb}
 use Rattle.loops.specs.Loop.{both, tally, bit}
 use Rattle.loops.proofs.Tests.{clash, lt-or-ge}
 use Rattle.loops.proofs.Loops.{tally-same, tally-move}
-use Rattle.model.specs.Image.{Image, Key, head, root, flag, state, payload, inlist, field, isCount, oneLess, oneMore, abroad, lose, gain, recount, placeOf, anchors, front, stride, addr, get, put, lengthOf, size, blank, refer, release}
+use Rattle.kinds.specs.Names.{roots, handles}
+use Rattle.model.specs.Image.{Image, Key, head, anchor, root, handle, flag, state, payload, inlist, field, isCount, oneLess, oneMore, abroad, lose, gain, recount, placeOf, anchors, front, stride, addr, get, put, lengthOf, size, blank, refer, release}
 unfoldable pub use Rattle.model.specs.Image.{Has, Sized}
 pub use Rattle.model.specs.Effects.{In}
 
 -- a key whose address is no other key's
 abbrev pub Fits : Key → Type 0
 Fits (head h) = h < 5
-Fits (root r) = r < anchors
+Fits (anchor r) = r < anchors
 Fits (flag p) = p < 16
 Fits (state j) = Unit {0}
 Fits (payload j) = Unit {0}
@@ -31,7 +32,7 @@ Fits (field j k) = k < 4
 -- two keys are the same: as numbers, so that the test computes for different kinds
 abbrev pub kind : Key → ℕ
 kind (head h) = 0
-kind (root r) = 1
+kind (anchor r) = 1
 kind (flag p) = 2
 kind (state j) = 3
 kind (payload j) = 4
@@ -40,7 +41,7 @@ kind (inlist j) = 6
 
 abbrev pub major : Key → ℕ
 major (head h) = h
-major (root r) = r
+major (anchor r) = r
 major (flag p) = p
 major (state j) = j
 major (payload j) = j
@@ -49,7 +50,7 @@ major (field j k) = j
 
 abbrev pub minor : Key → ℕ
 minor (head h) = 0
-minor (root r) = 0
+minor (anchor r) = 0
 minor (flag p) = 0
 minor (state j) = 0
 minor (payload j) = 0
@@ -73,14 +74,14 @@ keyIn : ℕ → ℕ → Key
 keyIn j o = cond (eqb o 0) (state j) (cond (eqb o 1) (payload j) (cond (eqb o 6) (inlist j) (field j (o - 2))))
 
 keyAt : ℕ → Key
-keyAt a = cond (ltb a 5) (head a) (cond (ltb a 21) (root (a - 5)) (cond (ltb a front) (flag (a - 21)) (keyIn ((a - front) / stride) ((a - front) % stride))))
+keyAt a = cond (ltb a 5) (head a) (cond (ltb a 21) (root (a - 5)) (cond (ltb a 37) (flag (a - 21)) (cond (ltb a front) (handle (a - 37)) (keyIn ((a - front) / stride) ((a - front) % stride)))))
 
 key-slot : (a j o : ℕ) → a ≡ front + stride * j + o → o < stride → keyAt a ≡ keyIn j o
 unfolding keyAt
 key-slot a j o e l =
     let d : (a - front) / stride ≡ j = omega arith in
     let m : (a - front) % stride ≡ o = omega arith in
-    rw (le-ltb a 5 (omega arith), le-ltb a 21 (omega arith), le-ltb a front (omega arith), d, m)
+    rw (le-ltb a 5 (omega arith), le-ltb a 21 (omega arith), le-ltb a 37 (omega arith), le-ltb a front (omega arith), d, m)
 
 key-field : (j k : ℕ) → k < 4 → keyIn j (2 + k) ≡ field j k
 unfolding keyIn
@@ -88,11 +89,39 @@ key-field j k l =
     let d : 2 + k - 2 ≡ k = omega arith in
     rw (ne-eqb (2 + k) 0 (λ e. omega arith), ne-eqb (2 + k) 1 (λ e. omega arith), ne-eqb (2 + k) 6 (λ e. omega arith), d)
 
+-- an anchor is a root, or else a handle
+pub root-addr : (a : ℕ) → a < roots → addr (anchor a) ≡ 5 + a
+unfolding addr
+root-addr a l = rw (lt-ltb a roots l)
+
+pub handle-addr : (a : ℕ) → roots ≤ a → addr (anchor a) ≡ 37 + (a - roots)
+unfolding addr
+handle-addr a l = rw (le-ltb a roots l)
+
+pub anchor-above : (a : ℕ) → a ≤ addr (anchor a)
+anchor-above a = ⊎-elim (λ r. omega (arith, root-addr a r)) (λ h. omega (arith, handle-addr a h)) (lt-or-ge a roots)
+
+key-root : (r : ℕ) → r < roots → keyAt (5 + r) ≡ root r
+unfolding keyAt
+key-root r l = let d : 5 + r - 5 ≡ r = omega arith in rw (le-ltb (5 + r) 5 (omega arith), lt-ltb (5 + r) 21 (omega arith), d)
+
+key-handle : (h : ℕ) → h < handles → keyAt (37 + h) ≡ handle h
+unfolding keyAt
+key-handle h l =
+    let d : 37 + h - 37 ≡ h = omega arith in
+    rw (le-ltb (37 + h) 5 (omega arith), le-ltb (37 + h) 21 (omega arith), le-ltb (37 + h) 37 (omega arith), lt-ltb (37 + h) front (omega arith), d)
+
+key-anchor : (a : ℕ) → a < anchors → keyAt (addr (anchor a)) ≡ anchor a
+key-anchor a l =
+    ⊎-elim (λ r. ap keyAt (root-addr a r) ∙ key-root a r)
+    (λ h. let d : roots + (a - roots) ≡ a = omega arith in ap keyAt (handle-addr a h) ∙ key-handle (a - roots) (omega arith) ∙ ap anchor d)
+    (lt-or-ge a roots)
+
 at-key : (κ : Key) → Fits κ → keyAt (addr κ) ≡ κ
 unfolding addr keyAt keyIn
 at-key (head h) v = rw (lt-ltb h 5 v)
-at-key (root r) v = let d : 5 + r - 5 ≡ r = omega arith in rw (le-ltb (5 + r) 5 (omega arith), lt-ltb (5 + r) 21 (omega arith), d)
-at-key (flag p) v = let d : 21 + p - 21 ≡ p = omega arith in rw (le-ltb (21 + p) 5 (omega arith), le-ltb (21 + p) 21 (omega arith), lt-ltb (21 + p) front (omega arith), d)
+at-key (anchor a) v = key-anchor a v
+at-key (flag p) v = let d : 21 + p - 21 ≡ p = omega arith in rw (le-ltb (21 + p) 5 (omega arith), le-ltb (21 + p) 21 (omega arith), lt-ltb (21 + p) 37 (omega arith), d)
 at-key (state j) v = key-slot (front + stride * j) j 0 (omega arith) (omega arith)
 at-key (payload j) v = key-slot (front + stride * j + 1) j 1 (omega arith) (omega arith)
 at-key (field j k) v = key-slot (front + stride * j + 2 + k) j (2 + k) (omega arith) (omega arith) ∙ key-field j k v
@@ -108,7 +137,7 @@ apart κ μ v w e q =
 
 pub in-fits : (n : ℕ) (κ : Key) → In n κ → Fits κ
 in-fits n (head h) v = v
-in-fits n (root r) v = v
+in-fits n (anchor r) v = v
 in-fits n (flag p) v = v
 in-fits n (state i) v = tt
 in-fits n (payload i) v = tt
@@ -119,7 +148,7 @@ module _ (n : ℕ) where
   pub addr-in : (κ : Key) → In n κ → addr κ < front + stride * n
   unfolding addr
   addr-in (head h) v = omega arith
-  addr-in (root r) v = omega arith
+  addr-in (anchor a) v = ⊎-elim (λ r. omega (arith, root-addr a r)) (λ h. omega (arith, handle-addr a h)) (lt-or-ge a roots)
   addr-in (flag p) v = omega arith
   addr-in (state i) v = omega arith
   addr-in (payload i) v = omega arith
@@ -178,7 +207,7 @@ NoCount κ = isCount κ ≡ false
 
 count-apart : (i : ℕ) (μ : Key) → NoCount μ → same (inlist i) μ ≡ false
 count-apart i (head h) e = refl
-count-apart i (root r) e = refl
+count-apart i (anchor r) e = refl
 count-apart i (flag p) e = refl
 count-apart i (state j) e = refl
 count-apart i (payload j) e = refl
@@ -189,7 +218,7 @@ count-apart i (inlist j) e = absurd (clash refl e)
 recount-apart : (S : ℕ) (img : Image) (κ : Key) (w : ℕ) (μ : Key) → Fits μ → cond (isCount μ) (eqb (kind κ) 5) false ≡ false → get (recount S img κ w) μ ≡ get img μ
 unfolding recount
 recount-apart S img (head h) w μ f e = refl
-recount-apart S img (root r) w μ f e = refl
+recount-apart S img (anchor r) w μ f e = refl
 recount-apart S img (flag p) w μ f e = refl
 recount-apart S img (state j) w μ f e = refl
 recount-apart S img (payload j) w μ f e = refl
@@ -239,7 +268,7 @@ module _ (n S : ℕ) (img : Image) (κ : Key) where
     where
       go : (κ : Key) → Sized n (recount S img κ w)
       go (head h) = z
-      go (root r) = z
+      go (anchor r) = z
       go (flag p) = z
       go (state j) = z
       go (payload j) = z
@@ -271,13 +300,14 @@ key-at : (n a : ℕ) → a < front + stride * n → (κ : Key) × In n κ × (ad
 unfolding addr
 key-at n a l =
     ⊎-elim (λ h. (head a, h, refl))
-    (λ h. ⊎-elim (λ r. (root (a - 5), omega arith, omega arith))
+    (λ h. ⊎-elim (λ r. (root (a - 5), omega arith, omega (arith, root-addr (a - 5) (omega arith))))
     (λ r. ⊎-elim (λ f. (flag (a - 21), omega arith, omega arith))
-    (λ f. ⊎-elim (λ c. (state ((a - front) / stride), omega arith, omega arith))
+    (λ f. ⊎-elim (λ g. (handle (a - 37), omega arith, omega (arith, handle-addr (roots + (a - 37)) (omega arith))))
+    (λ g. ⊎-elim (λ c. (state ((a - front) / stride), omega arith, omega arith))
     (λ c. ⊎-elim (λ d. (payload ((a - front) / stride), omega arith, omega arith))
     (λ d. ⊎-elim (λ e. (field ((a - front) / stride) ((a - front) % stride - 2), (omega arith, omega arith), omega arith))
     (λ e. (inlist ((a - front) / stride), omega arith, omega arith))
-    (lt-or-ge ((a - front) % stride) 6)) (lt-or-ge ((a - front) % stride) 2)) (lt-or-ge ((a - front) % stride) 1)) (lt-or-ge a front)) (lt-or-ge a 21)) (lt-or-ge a 5)
+    (lt-or-ge ((a - front) % stride) 6)) (lt-or-ge ((a - front) % stride) 2)) (lt-or-ge ((a - front) % stride) 1)) (lt-or-ge a front)) (lt-or-ge a 37)) (lt-or-ge a 21)) (lt-or-ge a 5)
 
 pub words-same : (n : ℕ) (y z : Image) → Sized n y → Sized n z → ((κ : Key) → In n κ → get y κ ≡ get z κ) → y ≡ z
 unfolding Sized get

@@ -35,3 +35,4 @@ pub mod Demand
 pub mod Computing
 pub mod Answers
 pub mod Effects
+pub mod Sessions

@@ -1,5 +1,6 @@
--- What a local collection of p keeps: exactly what a root names, what a field of another partition names, and what chains inside p lead to from there;
--- and with right counts every root and every object that stays refers to what stays, so no object to which a root leads is freed.
+-- What a local collection of p keeps: exactly what a root or a handle names, what a field of another partition names, and what chains inside p lead to
+-- from there; and with right counts every root, every handle and every object that stays refers to what stays, so no object to which a root or a handle
+-- leads is freed.
 -- Assumes nothing.
 use Prim.Native.Nat.{ℕ, _+_, _*_, _<_}
 use mathlib.Core.Path.{_≡_, refl, _∙_, subst}
@@ -12,7 +13,7 @@ use lib.ListN.{replicate}
 use borrow.Author.Tests.{eqb-true, eqb-false, eq-eqb, ne-eqb, not-true}
 use Rattle.loops.specs.Loop.{both}
 use Rattle.loops.proofs.Tests.{both-true}
-use Rattle.model.specs.Image.{Image, Key, root, inlist, field, anchors, get, placeOf, partOf, Holder, a-root, a-field}
+use Rattle.model.specs.Image.{Image, Key, anchor, inlist, field, anchors, get, placeOf, partOf, Holder, an-anchor, a-field}
 use Rattle.model.specs.Spread.{Reach, start, step}
 use Rattle.model.specs.Questions.{Bits, hasBit, addBit, collect, held, heldAt}
 use Rattle.model.specs.Acts.{refers, target, own, localStart, localBits}
@@ -52,39 +53,39 @@ module _ (P S : ℕ) (pos : 0 < S) (p : ℕ) (inp : p < P) (x : Image) (refs : (
   spreads = bit-spreads (P * S) mine (target S x) at S 4 (λ s k l m e. own-in _ (mine-is (at s) k e .1))
 
   -- the start
-  abbrev rootly : ℕ → Bool
-  rootly r = both (held x (root r)) (own S p (heldAt S x (root r)))
+  abbrev anchorly : ℕ → Bool
+  anchorly r = both (held x (anchor r)) (own S p (heldAt S x (anchor r)))
 
-  abbrev fromRoots : Bits
-  fromRoots = collect anchors rootly (λ r. heldAt S x (root r)) (replicate (P * S) 0)
+  abbrev fromAnchors : Bits
+  fromAnchors = collect anchors anchorly (λ r. heldAt S x (anchor r)) (replicate (P * S) 0)
 
-  rootly-is : (r : ℕ) → rootly r ≡ true → Names S x (root r) (heldAt S x (root r)) × (partOf S (heldAt S x (root r)) ≡ p)
-  rootly-is r e =
-      let b = both-true (held x (root r)) (own S p (heldAt S x (root r))) e in
+  anchorly-is : (r : ℕ) → anchorly r ≡ true → Names S x (anchor r) (heldAt S x (anchor r)) × (partOf S (heldAt S x (anchor r)) ≡ p)
+  anchorly-is r e =
+      let b = both-true (held x (anchor r)) (own S p (heldAt S x (anchor r))) e in
       (record { some = eqb-false _ _ (not-true _ (b .0)); target = refl }, eqb-true _ _ (b .1))
 
-  from-wide : Wide (P * S) fromRoots
-  from-wide = collect-wide (P * S) rootly (λ r. heldAt S x (root r)) anchors (replicate (P * S) 0) (none-wide (P * S))
+  from-wide : Wide (P * S) fromAnchors
+  from-wide = collect-wide (P * S) anchorly (λ r. heldAt S x (anchor r)) anchors (replicate (P * S) 0) (none-wide (P * S))
 
   start-wide : Wide (P * S) (localStart P S p x)
   unfolding localStart
-  start-wide = collect-wide (P * S) (λ s. held x (inlist (at s))) at S fromRoots from-wide
+  start-wide = collect-wide (P * S) (λ s. held x (inlist (at s))) at S fromAnchors from-wide
 
-  more-named : (t : ℕ) → hasBit fromRoots t ≡ true → hasBit (localStart P S p x) t ≡ true
+  more-named : (t : ℕ) → hasBit fromAnchors t ≡ true → hasBit (localStart P S p x) t ≡ true
   unfolding localStart
-  more-named t h = collect-more (P * S) (λ s. held x (inlist (at s))) at S (λ s l e. slot-in P S pos p s inp l) fromRoots t from-wide h
+  more-named t h = collect-more (P * S) (λ s. held x (inlist (at s))) at S (λ s l e. slot-in P S pos p s inp l) fromAnchors t from-wide h
 
-  start-root : (r t : ℕ) → r < anchors → Names S x (root r) t → partOf S t ≡ p → hasBit (localStart P S p x) t ≡ true
-  start-root r t l n e =
+  start-anchor : (r t : ℕ) → r < anchors → Names S x (anchor r) t → partOf S t ≡ p → hasBit (localStart P S p x) t ≡ true
+  start-anchor r t l n e =
       more-named t
       (rw (n .target) at
-      (collect-has (P * S) rootly (λ r. heldAt S x (root r)) anchors (λ r lr q. own-in _ (rootly-is r q .1)) (replicate (P * S) 0) r (none-wide (P * S)) l
-      (rw (ne-eqb (get x (root r)) 0 (n .some), n .target, eq-eqb (partOf S t) p e))))
+      (collect-has (P * S) anchorly (λ r. heldAt S x (anchor r)) anchors (λ r lr q. own-in _ (anchorly-is r q .1)) (replicate (P * S) 0) r (none-wide (P * S)) l
+      (rw (ne-eqb (get x (anchor r)) 0 (n .some), n .target, eq-eqb (partOf S t) p e))))
 
   start-named : (s : ℕ) → s < S → get x (inlist (at s)) ≢ 0 → hasBit (localStart P S p x) (at s) ≡ true
   unfolding localStart
   start-named s l ne =
-      collect-has (P * S) (λ s. held x (inlist (at s))) at S (λ s l e. slot-in P S pos p s inp l) fromRoots s from-wide l (rw (ne-eqb (get x (inlist (at s))) 0 ne))
+      collect-has (P * S) (λ s. held x (inlist (at s))) at S (λ s l e. slot-in P S pos p s inp l) fromAnchors s from-wide l (rw (ne-eqb (get x (inlist (at s))) 0 ne))
 
   counted-start : (t : ℕ) → partOf S t ≡ p → get x (inlist t) ≢ 0 → hasBit (localStart P S p x) t ≡ true
   counted-start t e ne = let s = slot-of P S pos t p e in subst (λ (v : ℕ). hasBit (localStart P S p x) v ≡ true) (s .2) (start-named (s .0) (s .1) (rw (s .2) ne))
@@ -93,13 +94,13 @@ module _ (P S : ℕ) (pos : 0 < S) (p : ℕ) (inp : p < P) (x : Image) (refs : (
   unfolding localStart
   start-only t h =
       ⊎-elim from-only (λ q. subst (KeptIn S p x) (q .3) (start (part-of P S pos p (q .0) (q .1), inr (eqb-false _ _ (not-true _ (q .2))))))
-      (collect-only (P * S) (λ s. held x (inlist (at s))) at S fromRoots t h)
+      (collect-only (P * S) (λ s. held x (inlist (at s))) at S fromAnchors t h)
     where
-      from-only : hasBit fromRoots t ≡ true → KeptIn S p x t
+      from-only : hasBit fromAnchors t ≡ true → KeptIn S p x t
       from-only g =
           ⊎-elim (λ z. absurd (none-has (P * S) t z))
-          (λ q. let e = rootly-is (q .0) (q .2) in subst (KeptIn S p x) (q .3) (start (e .1, inl (q .0, q .1, e .0))))
-          (collect-only (P * S) rootly (λ r. heldAt S x (root r)) anchors (replicate (P * S) 0) t g)
+          (λ q. let e = anchorly-is (q .0) (q .2) in subst (KeptIn S p x) (q .3) (start (e .1, inl (q .0, q .1, e .0))))
+          (collect-only (P * S) anchorly (λ r. heldAt S x (anchor r)) anchors (replicate (P * S) 0) t g)
 
   more : (t : ℕ) → hasBit (localStart P S p x) t ≡ true → hasBit (localBits P S p x) t ≡ true
   unfolding localBits
@@ -116,7 +117,7 @@ module _ (P S : ℕ) (pos : 0 < S) (p : ℕ) (inp : p < P) (x : Image) (refs : (
 
   -- exactly what the request says
   pub local-so : (t : ℕ) → KeptIn S p x t → hasBit (localBits P S p x) t ≡ true
-  local-so t (start h) = more t (⊎-elim (λ c. start-root (c .0) t (c .1) (c .2) (h .0)) (λ ne. counted-start t (h .0) ne) (h .1))
+  local-so t (start h) = more t (⊎-elim (λ c. start-anchor (c .0) t (c .1) (c .2) (h .0)) (λ ne. counted-start t (h .0) ne) (h .1))
   local-so t (step {i = i} c e) = onward i (e .0) t (e .1) (kept-own c) (e .3) (local-so i c) (e .2)
 
   pub local-only : (t : ℕ) → hasBit (localBits P S p x) t ≡ true → KeptIn S p x t
@@ -153,13 +154,13 @@ module _ (P S : ℕ) (pos : 0 < S) (p : ℕ) (inp : p < P) (x : Image) (refs : (
       go (yes e) true h = inl (bit-stays-in i h)
       go (yes e) false h = let s = slot-of P S pos i p e in inr (s .0, s .1, s .2, h)
 
-  -- with right counts, roots and staying objects refer only to staying ones
+  -- with right counts, roots, handles and staying objects refer only to staying ones
   module _ (right : Right (P * S) S x) where
-    pub local-roots : (r t : ℕ) → r < anchors → Names S x (root r) t → StaysIn t
-    local-roots r t l n = go (ℕ-discrete (partOf S t) p)
+    pub local-anchors : (r t : ℕ) → r < anchors → Names S x (anchor r) t → StaysIn t
+    local-anchors r t l n = go (ℕ-discrete (partOf S t) p)
       where
         go : Dec (partOf S t ≡ p) → StaysIn t
-        go (yes e) = bit-stays-in t (more t (start-root r t l n e))
+        go (yes e) = bit-stays-in t (more t (start-anchor r t l n e))
         go (no e) = stays-far t e
 
     pub local-fields : (i k t : ℕ) → i < P * S → k < 4 → StaysIn i → Names S x (field i k) t → StaysIn t
@@ -174,9 +175,9 @@ module _ (P S : ℕ) (pos : 0 < S) (p : ℕ) (inp : p < P) (x : Image) (refs : (
             (counted-start t a
             (abroad-counted (P * S) S x right t (own-in t a) (record { holder = i; k = k; place = l; small = m; elsewhere = λ q. c (q ∙ a); names = n }))))
 
-    -- what a root leads to stays
+    -- what a root or a handle leads to stays
     pub local-leads : (i : ℕ) → Leads S x i → (i < P * S) × StaysIn i
-    local-leads i (start c) = (named-in P S x refs (root (c .0)) (a-root (c .1)) i (c .2), local-roots (c .0) i (c .1) (c .2))
+    local-leads i (start c) = (named-in P S x refs (anchor (c .0)) (an-anchor (c .1)) i (c .2), local-anchors (c .0) i (c .1) (c .2))
     local-leads i (step {i = j} c e) =
         let r = local-leads j c in
         (named-in P S x refs (field j (e .0)) (a-field (r .0) (e .1)) i (e .2), local-fields j (e .0) i (r .0) (e .1) (r .1) (e .2))

@@ -10,9 +10,9 @@ use Rattle.loops.proofs.Loops.{each-keeps}
 use Rattle.kinds.specs.Names.{mostPartitions, wordOf}
 use Rattle.kinds.specs.declared.Target.{Target}
 use Rattle.kinds.specs.declared.Operation.{Operation}
-use Rattle.kinds.specs.declared.Single.the-variants.{Open, Trace, Close, Local}
+use Rattle.kinds.specs.declared.Single.the-variants.{Open, Trace, Close, Local, Hold, Drop}
 use Rattle.kinds.specs.declared.Verdict.the-variants.{Accepted}
-use Rattle.model.specs.Image.{Image, Key, head, flag, state, payload, phase, count, allowance, get, put, placeOf, refer, release, Holder, a-root, a-field}
+use Rattle.model.specs.Image.{Image, Key, head, flag, state, payload, phase, count, allowance, get, put, placeOf, refer, release, Holder, an-anchor, a-field}
 use Rattle.model.specs.Acts.{Act, commit, single, localBits, freeBut, localUp, isOpen, mark, markWord, store, born, perform, unclean, allow, openUp, finish, traceOne, clear, shut, closeUp, apply}
 use Rattle.model.specs.Judge.{judge}
 use Rattle.model.specs.Questions.{hasBit}
@@ -22,8 +22,8 @@ use Rattle.model.proofs.Places.{parts, slot-in}
 use Rattle.model.proofs.Holders.{holder-in, holder-head}
 use Rattle.model.proofs.Moves.{Linked, mark-keeps}
 use Rattle.model.proofs.Tracing.{mark-linked, trace-marks}
-use Rattle.model.proofs.Committing.{check-true, May, Good, good-new, good-set, good-val, good-root, commit-keeps, target-used, mark-word-keeps}
-use Rattle.model.proofs.Opening.{open-started, roots-keep}
+use Rattle.model.proofs.Committing.{check-true, May, Good, good-new, good-set, good-val, good-root, commit-keeps, good-hold, good-drop, target-used, mark-word-keeps}
+use Rattle.model.proofs.Opening.{open-started, anchors-keep}
 use Rattle.model.proofs.Closing.{settle-cases}
 
 -- words that an act puts: the phase, the count, the allowance, a flag, a state, a payload
@@ -82,7 +82,7 @@ module _ (P S : ℕ) (limits : Limits P S) (x : Image) where
   made-perform y _ (good-new lp ls e) q = worded _ payload-word (worded _ state-word q)
   made-perform y _ (good-set lp ls lk u t) q = made-store y _ _ (a-field (slot-in P S (limits .some-slot) _ _ lp ls) lk) t q
   made-perform y _ (good-val lp ls u) q = worded _ payload-word q
-  made-perform y _ (good-root lr t) q = made-store y _ _ (a-root lr) t q
+  made-perform y _ (good-root lr t) q = made-store y _ _ (an-anchor lr) t q
 
   made-unclean : (y : Image) → From y → From (unclean y)
   unfolding unclean
@@ -101,7 +101,7 @@ module _ (P S : ℕ) (limits : Limits P S) (x : Image) where
   unfolding openUp allow LinkedFrom
   made-open w =
       worded _ allowance-word (worded _ count-word
-      (roots-keep P S limits LinkedFrom (λ z q. q .0) marked-on _ (open-started P S limits x w, made-unclean _ (worded _ phase-word as-is)) .1))
+      (anchors-keep P S limits LinkedFrom (λ z q. q .0) marked-on _ (open-started P S limits x w, made-unclean _ (worded _ phase-word as-is)) .1))
 
   made-trace : (p : ℕ) → p < P → Linked P S x → From (traceOne S p x)
   unfolding traceOne finish LinkedFrom
@@ -126,9 +126,11 @@ module _ (P S : ℕ) (limits : Limits P S) (x : Image) where
       stay z i li q false = made-clear z i li q
 
   pub made : (a : Act) → judge P S x a ≡ Accepted → Linked P S x → From (apply P S x a)
-  unfolding judge apply
+  unfolding judge apply perform
   made (commit os) j w = commit-keeps P S From made-perform x 1 os (check-true _ _ _ _ j .1) as-is
   made (single Open) j w = made-open w
   made (single (Trace p)) j w = made-trace (p .0) (ltb-true _ _ (check-true _ _ _ _ (check-true _ _ _ _ j .1) .0)) w
   made (single Close) j w = made-close
   made (single (Local p)) j w = made-local (p .0) (ltb-true _ _ (check-true _ _ _ _ j .0))
+  made (single (Hold h n)) j w = made-perform x _ (good-hold P S x h n j) as-is
+  made (single (Drop h)) j w = made-perform x _ (good-drop P S x h j) as-is

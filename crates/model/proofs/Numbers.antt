@@ -9,7 +9,7 @@ use Rattle.kinds.specs.declared.Name.{Name}
 use Rattle.kinds.specs.declared.Operation.{Operation}
 use Rattle.kinds.specs.declared.Operation.the-variants.{New, Set, Val, Root}
 use Rattle.kinds.specs.declared.Refusal.{Refusal}
-use Rattle.kinds.specs.declared.Single.the-variants.{Open, Trace, Close, Local}
+use Rattle.kinds.specs.declared.Single.the-variants.{Open, Trace, Close, Local, Hold, Drop}
 use Rattle.kinds.specs.declared.Verdict.{Verdict}
 use Rattle.kinds.specs.declared.Verdict.the-variants.{Accepted, Refused}
 use Rattle.model.specs.Image.{Image}
@@ -53,6 +53,10 @@ unfolding judgeOps
 ops-among P S x e [] = accepted
 ops-among P S x e (o ∷ os) = then-among _ _ (op-among P S x e o) (ops-among P S (perform S x o) (e + 1) os)
 
+pub name-among : (P S : ℕ) (x : Image) (n : Name) → Among 7 9 (judgeName P S x n)
+unfolding judgeName
+name-among P S x n = check-among _ 7 0 _ (omega arith) (omega arith) (check-among _ 9 0 _ (omega arith) (omega arith) accepted)
+
 pub act-among : (P S : ℕ) (x : Image) (a : Act) → Among 6 16 (judge P S x a)
 unfolding judge
 act-among P S x (commit os) = check-among _ 6 0 _ (omega arith) (omega arith) (among-wider 6 16 _ (omega arith) (omega arith) (ops-among P S x 1 os))
@@ -66,14 +70,12 @@ act-among P S x (single Close) =
     (check-among _ 12 0 _ (omega arith) (omega arith)
     (check-among _ 14 _ _ (omega arith) (omega arith) (check-among _ 16 0 _ (omega arith) (omega arith) accepted)))
 act-among P S x (single (Local p)) = check-among _ 7 0 _ (omega arith) (omega arith) (check-among _ 12 0 _ (omega arith) (omega arith) accepted)
+act-among P S x (single (Hold h n)) = check-among _ 7 0 _ (omega arith) (omega arith) (among-wider 6 16 _ (omega arith) (omega arith) (name-among P S x n))
+act-among P S x (single (Drop h)) = check-among _ 7 0 _ (omega arith) (omega arith) accepted
 
 pub outlist-among : (P p : ℕ) → Among 7 7 (judgeOutlist P p)
 unfolding judgeOutlist
 outlist-among P p = check-among _ 7 0 _ (omega arith) (omega arith) accepted
-
-pub name-among : (P S : ℕ) (x : Image) (n : Name) → Among 7 9 (judgeName P S x n)
-unfolding judgeName
-name-among P S x n = check-among _ 7 0 _ (omega arith) (omega arith) (check-among _ 9 0 _ (omega arith) (omega arith) accepted)
 
 pub format-among : (P S n : ℕ) → Among 2 2 (judgeFormat P S n)
 unfolding judgeFormat

@@ -11,9 +11,9 @@ use borrow.Author.Tests.{eqb-true, eqb-false, eq-eqb, ne-eqb, not-true, not-fals
 use Rattle.loops.specs.Loop.{both, every}
 use Rattle.loops.proofs.Tests.{clash, both-true, both-false, both-self}
 use Rattle.loops.proofs.Loops.{each-keeps, each-reaches, tally-same, tally-le, every-true, every-false}
-use Rattle.model.specs.Image.{Image, Key, root, flag, state, field, phase, count, allowance, anchors, get, put, placeOf, partOf, Holder, a-root, a-field}
-use Rattle.model.specs.Acts.{used, mark, markWord, unmarked, notClean, unclean, markRoots, allow, openUp}
-use Rattle.model.specs.History.{names, unrooted}
+use Rattle.model.specs.Image.{Image, Key, anchor, flag, state, field, phase, count, allowance, anchors, get, put, placeOf, partOf, Holder, an-anchor, a-field}
+use Rattle.model.specs.Acts.{used, mark, markWord, unmarked, notClean, unclean, markAnchors, allow, openUp}
+use Rattle.model.specs.History.{names, unanchored}
 use Rattle.model.specs.Chains.{Names}
 use Rattle.model.specs.Sound.{Limits}
 use Rattle.model.proofs.Keys.{Fits, same, in-fits, get-put-apart, sized-put, get-put-same}
@@ -38,16 +38,16 @@ module _ (P S : ℕ) (limits : Limits P S) where
     pub linked : Linked P S x
     pub plain : (i : ℕ) → i < P * S → get x (state i) ≢ 2
 
-  -- while the roots are marked: x is the heap before
+  -- while what roots and handles name is marked: x is the heap before
   pub record Ready (x y : Image) : Type 0 where
     pub linked : Linked P S y
     pub opened : get y phase ≡ 1
     pub flags : (p : ℕ) → p < P → get y (flag p) ≡ 0
     pub holders : (κ : Key) → Holder (P * S) κ → get y κ ≡ get x κ
-    -- a state is as before, or a root's mark
-    pub states : (i : ℕ) → (get y (state i) ≡ get x (state i)) ⊎ ((get y (state i) ≡ 2) × ((r : ℕ) × (r < anchors) × Names S x (root r) i))
+    -- a state is as before, or the mark of what a root or a handle names
+    pub states : (i : ℕ) → (get y (state i) ≡ get x (state i)) ⊎ ((get y (state i) ≡ 2) × ((r : ℕ) × (r < anchors) × Names S x (anchor r) i))
 
-  ready-mark : (x y : Image) (r : ℕ) → r < anchors → Ready x y → get y (root r) ≢ 0 → Ready x (mark S y (placeOf S (get y (root r))))
+  ready-mark : (x y : Image) (r : ℕ) → r < anchors → Ready x y → get y (anchor r) ≢ 0 → Ready x (mark S y (placeOf S (get y (anchor r))))
   ready-mark x y r l g ne =
       record {
         linked = mark-linked P S limits y t lt (g .linked);
@@ -58,20 +58,20 @@ module _ (P S : ℕ) (limits : Limits P S) where
       }
     where
       t : ℕ
-      t = placeOf S (get y (root r))
+      t = placeOf S (get y (anchor r))
 
       lt : t < P * S
-      lt = g .linked .refs (root r) (a-root l) ne .0
+      lt = g .linked .refs (anchor r) (an-anchor l) ne .0
 
-      go : (i : ℕ) → Dec (t ≡ i) → (get (mark S y t) (state i) ≡ get x (state i)) ⊎ ((get (mark S y t) (state i) ≡ 2) × ((r : ℕ) × (r < anchors) × Names S x (root r) i))
+      go : (i : ℕ) → Dec (t ≡ i) → (get (mark S y t) (state i) ≡ get x (state i)) ⊎ ((get (mark S y t) (state i) ≡ 2) × ((r : ℕ) × (r < anchors) × Names S x (anchor r) i))
       go i (yes q) =
-          let h = g .holders (root r) (a-root l) in
-          let two = mark-marks P S limits y t lt (g .linked) (g .linked .refs (root r) (a-root l) ne .1) in
+          let h = g .holders (anchor r) (an-anchor l) in
+          let two = mark-marks P S limits y t lt (g .linked) (g .linked .refs (anchor r) (an-anchor l) ne .1) in
           inr (subst (λ (v : ℕ). get (mark S y t) (state v) ≡ 2) q two, (r, l, record { some = λ n. ne (h ∙ n); target = ap (placeOf S) (sym h) ∙ q }))
       go i (no q) = rw (mark-read P S limits y t (state i) lt tt (ne-eqb t i q) refl) (g .states i)
 
-  ready-root : (x y : Image) (r : ℕ) → r < anchors → Ready x y → Ready x (markWord S y (get y (root r)))
-  ready-root x y r l g = mark-word-keeps P S limits (Ready x) y (get y (root r)) (λ ne. ready-mark x y r l g ne) (λ e. g)
+  ready-anchor : (x y : Image) (r : ℕ) → r < anchors → Ready x y → Ready x (markWord S y (get y (anchor r)))
+  ready-anchor x y r l g = mark-word-keeps P S limits (Ready x) y (get y (anchor r)) (λ ne. ready-mark x y r l g ne) (λ e. g)
 
   abbrev pub started : Image → Image
   started x = unclean (put x phase 1)
@@ -91,54 +91,54 @@ module _ (P S : ℕ) (limits : Limits P S) where
   pub open-started : (x : Image) → Linked P S x → Linked P S (unclean (put x phase 1))
   open-started x w = ready x w .linked
 
-  pub ready-roots : (x : Image) → Linked P S x → Ready x (markRoots S (started x))
-  unfolding markRoots
-  ready-roots x w = each-keeps (Ready x) _ _ (λ y r l g. ready-root x y r l g) _ (ready x w)
+  pub ready-anchors : (x : Image) → Linked P S x → Ready x (markAnchors S (started x))
+  unfolding markAnchors
+  ready-anchors x w = each-keeps (Ready x) _ _ (λ y r l g. ready-anchor x y r l g) _ (ready x w)
 
-  -- every root's object is marked
-  pub roots-marked : (x : Image) → Linked P S x → (r : ℕ) → r < anchors → get x (root r) ≢ 0 → get (markRoots S (started x)) (state (placeOf S (get x (root r)))) ≡ 2
-  unfolding markRoots
-  roots-marked x w r l ne =
-      each-reaches (λ y. Ready x y × (get y (state (placeOf S (get x (root r)))) ≡ 2)) _ _ (started x) r l
+  -- what a root or a handle names is marked
+  pub anchors-marked : (x : Image) → Linked P S x → (r : ℕ) → r < anchors → get x (anchor r) ≢ 0 → get (markAnchors S (started x)) (state (placeOf S (get x (anchor r)))) ≡ 2
+  unfolding markAnchors
+  anchors-marked x w r l ne =
+      each-reaches (λ y. Ready x y × (get y (state (placeOf S (get x (anchor r)))) ≡ 2)) _ _ (started x) r l
       (λ y c m g. (
-        ready-root x y c m (g .0),
-        mark-word-keeps P S limits (λ z. get z (state (placeOf S (get x (root r)))) ≡ 2) y (get y (root c))
-            (λ q. mark-stays P S limits y _ _ (g .0 .linked .refs (root c) (a-root m) q .0) (g .0 .linked) (g .1)) (λ e. g .1),
+        ready-anchor x y c m (g .0),
+        mark-word-keeps P S limits (λ z. get z (state (placeOf S (get x (anchor r)))) ≡ 2) y (get y (anchor c))
+            (λ q. mark-stays P S limits y _ _ (g .0 .linked .refs (anchor c) (an-anchor m) q .0) (g .0 .linked) (g .1)) (λ e. g .1),
       ))
-      (let g = each-keeps (Ready x) r (λ y c. markWord S y (get y (root c))) (λ y c m w. ready-root x y c (omega arith) w) _ (ready x w) in
-      (ready-root x _ r l g, made _ g))
+      (let g = each-keeps (Ready x) r (λ y c. markWord S y (get y (anchor c))) (λ y c m w. ready-anchor x y c (omega arith) w) _ (ready x w) in
+      (ready-anchor x _ r l g, made _ g))
       .1
     where
-      made : (y : Image) → Ready x y → get (markWord S y (get y (root r))) (state (placeOf S (get x (root r)))) ≡ 2
+      made : (y : Image) → Ready x y → get (markWord S y (get y (anchor r))) (state (placeOf S (get x (anchor r)))) ≡ 2
       made y g =
-          let h = g .holders (root r) (a-root l) in
-          mark-word-keeps P S limits (λ z. get z (state (placeOf S (get x (root r)))) ≡ 2) y (get y (root r))
-          (λ q. let u = g .linked .refs (root r) (a-root l) q in rw (← h) (mark-marks P S limits y _ (u .0) (g .linked) (u .1))) (λ e. absurd (ne (sym h ∙ e)))
+          let h = g .holders (anchor r) (an-anchor l) in
+          mark-word-keeps P S limits (λ z. get z (state (placeOf S (get x (anchor r)))) ≡ 2) y (get y (anchor r))
+          (λ q. let u = g .linked .refs (anchor r) (an-anchor l) q in rw (← h) (mark-marks P S limits y _ (u .0) (g .linked) (u .1))) (λ e. absurd (ne (sym h ∙ e)))
 
   -- the last two words
   allow-other : (a : Image) (μ : Key) → Fits μ → same count μ ≡ false → same allowance μ ≡ false → get (allow P S a) μ ≡ get a μ
   unfolding allow
   allow-other a μ f c e = get-put-apart (put a count 0) allowance _ μ (omega arith) f e ∙ get-put-apart a count 0 μ (omega arith) f c
 
-  pub open-other : (x : Image) (μ : Key) → Fits μ → same count μ ≡ false → same allowance μ ≡ false → get (openUp P S x) μ ≡ get (markRoots S (started x)) μ
+  pub open-other : (x : Image) (μ : Key) → Fits μ → same count μ ≡ false → same allowance μ ≡ false → get (openUp P S x) μ ≡ get (markAnchors S (started x)) μ
   unfolding openUp
-  open-other x μ f c e = allow-other (markRoots S (started x)) μ f c e
+  open-other x μ f c e = allow-other (markAnchors S (started x)) μ f c e
 
   pub open-count : (x : Image) → Linked P S x → get (openUp P S x) count ≡ 0
   unfolding openUp allow
-  open-count x w = get-put-apart (put a count 0) allowance _ count (omega arith) (omega arith) refl ∙ get-put-same (P * S) a count 0 (ready-roots x w .linked .size) (omega arith)
+  open-count x w = get-put-apart (put a count 0) allowance _ count (omega arith) (omega arith) refl ∙ get-put-same (P * S) a count 0 (ready-anchors x w .linked .size) (omega arith)
     where
       a : Image
-      a = markRoots S (started x)
+      a = markAnchors S (started x)
 
-  pub open-allowance : (x : Image) → Linked P S x → get (openUp P S x) allowance ≡ P + unmarked (P * S) (markRoots S (started x))
+  pub open-allowance : (x : Image) → Linked P S x → get (openUp P S x) allowance ≡ P + unmarked (P * S) (markAnchors S (started x))
   unfolding openUp allow
-  open-allowance x w = get-put-same (P * S) _ allowance _ (sized-put _ _ _ _ (ready-roots x w .linked .size)) (omega arith)
+  open-allowance x w = get-put-same (P * S) _ allowance _ (sized-put _ _ _ _ (ready-anchors x w .linked .size)) (omega arith)
 
   open-linked : (x : Image) → Linked P S x → Linked P S (openUp P S x)
   unfolding openUp allow
   open-linked x w =
-      let g = ready-roots x w in
+      let g = ready-anchors x w in
       let b = up-linked P S limits _ _ (up-plain P S limits _ count 0 (a-head (omega arith)) (g .linked .size)) (g .linked) in
       up-linked P S limits _ _ (up-plain P S limits _ allowance _ (a-head (omega arith)) (b .size)) b
 
@@ -161,62 +161,62 @@ module _ (P S : ℕ) (limits : Limits P S) where
       }
     where
       a : Image
-      a = markRoots S (started x)
+      a = markAnchors S (started x)
 
       y : Image
       y = openUp P S x
 
       g : Ready x a
-      g = ready-roots x w
+      g = ready-anchors x w
 
       leads : (κ : Key) (h : Holder (P * S) κ) → Live (P * S) S y κ h → get y κ ≢ 0 → get y (state (placeOf S (get y κ))) ≡ 2
-      leads κ (a-root {r = r} l) v ne =
-          let e : get y (root r) ≡ get x (root r) = open-other x (root r) l refl refl ∙ g .holders (root r) (a-root l) in
-          rw e (open-other x (state _) tt refl refl ∙ roots-marked x w r l (λ q. ne (e ∙ q)))
+      leads κ (an-anchor {a = r} l) v ne =
+          let e : get y (anchor r) ≡ get x (anchor r) = open-other x (anchor r) l refl refl ∙ g .holders (anchor r) (an-anchor l) in
+          rw e (open-other x (state _) tt refl refl ∙ anchors-marked x w r l (λ q. ne (e ∙ q)))
       leads κ (a-field {j = i} {k = k} l m) v ne =
           let q = parts P S (limits .some-slot) i l in
           absurd (v .1 (open-other x (flag (partOf S i)) (omega arith) refl refl ∙ g .flags (partOf S i) q))
 
   -- the allowance is P + W
-  pub open-allows : (x : Image) → Shut x → get (openUp P S x) allowance ≡ P + unrooted P S x
-  unfolding unmarked unrooted
-  open-allows x sh = open-allowance x (sh .linked) ∙ ap (λ (n : ℕ). P + n) (tally-same (P * S) _ _ (λ i l. go i l (every anchors (λ r. not (names S x (root r) i))) refl))
+  pub open-allows : (x : Image) → Shut x → get (openUp P S x) allowance ≡ P + unanchored P S x
+  unfolding unmarked unanchored
+  open-allows x sh = open-allowance x (sh .linked) ∙ ap (λ (n : ℕ). P + n) (tally-same (P * S) _ _ (λ i l. go i l (every anchors (λ r. not (names S x (anchor r) i))) refl))
     where
       a : Image
-      a = markRoots S (started x)
+      a = markAnchors S (started x)
 
       g : Ready x a
-      g = ready-roots x (sh .linked)
+      g = ready-anchors x (sh .linked)
 
-      go : (i : ℕ) → i < P * S → (b : Bool) → every anchors (λ r. not (names S x (root r) i)) ≡ b
-          → eqb (get a (state i)) 1 ≡ both (used x i) (every anchors (λ r. not (names S x (root r) i)))
+      go : (i : ℕ) → i < P * S → (b : Bool) → every anchors (λ r. not (names S x (anchor r) i)) ≡ b
+          → eqb (get a (state i)) 1 ≡ both (used x i) (every anchors (λ r. not (names S x (anchor r) i)))
       go i l true e =
           let s : get a (state i) ≡ get x (state i) =
           ⊎-elim (λ q. q)
           (λ q.
           let r = q .1 .0 in
-          let n : names S x (root r) i ≡ true = rw (ne-eqb (get x (root r)) 0 (q .1 .2 .some), eq-eqb (placeOf S (get x (root r))) i (q .1 .2 .target)) in
+          let n : names S x (anchor r) i ≡ true = rw (ne-eqb (get x (anchor r)) 0 (q .1 .2 .some), eq-eqb (placeOf S (get x (anchor r))) i (q .1 .2 .target)) in
           absurd (clash n (not-true _ (every-true anchors _ e r (q .1 .1)))))
           (g .states i) in
           rw (e, s) (used-is _ (sh .linked .states i l) (sh .plain i l) ∙ sym (both-self (used x i)))
       go i l false e =
           let r = every-false anchors _ e in
-          let n = both-true (not (eqb (get x (root (r .0))) 0)) (eqb (placeOf S (get x (root (r .0)))) i) (not-false _ (r .2)) in
-          let m : get a (state i) ≡ 2 = subst (λ (v : ℕ). get a (state v) ≡ 2) (eqb-true _ _ (n .1)) (roots-marked x (sh .linked) (r .0) (r .1) (eqb-false _ _ (not-true _ (n .0)))) in
+          let n = both-true (not (eqb (get x (anchor (r .0))) 0)) (eqb (placeOf S (get x (anchor (r .0)))) i) (not-false _ (r .2)) in
+          let m : get a (state i) ≡ 2 = subst (λ (v : ℕ). get a (state v) ≡ 2) (eqb-true _ _ (n .1)) (anchors-marked x (sh .linked) (r .0) (r .1) (eqb-false _ _ (not-true _ (n .0)))) in
           rw (e, m) (sym (both-false (used x i)))
 
   -- what opening marks, and leaves
-  pub open-marks : (x : Image) → Shut x → (i : ℕ) → i < P * S → get (openUp P S x) (state i) ≡ 2 → (r : ℕ) × (r < anchors) × Names S x (root r) i
+  pub open-marks : (x : Image) → Shut x → (i : ℕ) → i < P * S → get (openUp P S x) (state i) ≡ 2 → (r : ℕ) × (r < anchors) × Names S x (anchor r) i
   open-marks x sh i l e =
       let q = open-other x (state i) tt refl refl in
-      ⊎-elim (λ s. absurd (sh .plain i l (sym s ∙ sym q ∙ e))) (λ s. s .1) (ready-roots x (sh .linked) .states i)
+      ⊎-elim (λ s. absurd (sh .plain i l (sym s ∙ sym q ∙ e))) (λ s. s .1) (ready-anchors x (sh .linked) .states i)
 
   pub open-field : (x : Image) → Linked P S x → (i k : ℕ) → i < P * S → k < 4 → get (openUp P S x) (field i k) ≡ get x (field i k)
-  open-field x w i k l m = open-other x (field i k) m refl refl ∙ ready-roots x w .holders (field i k) (a-field l m)
+  open-field x w i k l m = open-other x (field i k) m refl refl ∙ ready-anchors x w .holders (field i k) (a-field l m)
 
-  -- whatever a mark of an object that a root names keeps, the marking of the roots keeps
-  pub roots-keep : (Q : Image → Type 0) → ((z : Image) → Q z → Linked P S z) → ((z : Image) (t : ℕ) → t < P * S → Q z → Q (mark S z t)) → (x : Image) → Q x → Q (markRoots S x)
-  unfolding markRoots
-  roots-keep Q linked h x q =
+  -- whatever a mark of an object that a root or a handle names keeps, the marking of all of them keeps
+  pub anchors-keep : (Q : Image → Type 0) → ((z : Image) → Q z → Linked P S z) → ((z : Image) (t : ℕ) → t < P * S → Q z → Q (mark S z t)) → (x : Image) → Q x → Q (markAnchors S x)
+  unfolding markAnchors
+  anchors-keep Q linked h x q =
       each-keeps Q anchors _
-      (λ y r l w. mark-word-keeps P S limits Q y (get y (root r)) (λ ne. h y _ (linked y w .refs (root r) (a-root l) ne .0) w) (λ e. w)) x q
+      (λ y r l w. mark-word-keeps P S limits Q y (get y (anchor r)) (λ ne. h y _ (linked y w .refs (anchor r) (an-anchor l) ne .0) w) (λ e. w)) x q

@@ -10,7 +10,7 @@ use lib.Dec.{eqb}
 use borrow.Author.Tests.{eq-eqb, ne-eqb}
 use Rattle.loops.specs.Loop.{bit}
 use Rattle.loops.proofs.Loops.{tally-same}
-use Rattle.model.specs.Image.{Image, Key, head, flag, state, payload, field, phase, count, allowance, get, put, placeOf, partOf, refer, Holder, a-root, a-field}
+use Rattle.model.specs.Image.{Image, Key, head, flag, state, payload, field, phase, count, allowance, get, put, placeOf, partOf, refer, Holder, an-anchor, a-field}
 use Rattle.model.specs.Acts.{isOpen, mark, born, unmarked, notClean, finish}
 use Rattle.model.specs.Sound.{Limits}
 use Rattle.model.proofs.Keys.{In, Sized, same, sized-put, get-put-same, get-put-other, count-put, count-other}
@@ -18,9 +18,9 @@ use Rattle.model.proofs.Places.{parts}
 use Rattle.model.proofs.Holders.{holder-in, state-holder, flag-holder, head-holder, a-payload}
 use Rattle.model.proofs.Moves.{Linked, Up, grow-linked, up-linked, up-plain, newMark, part-small, newMark-other, up-newMark, mark-keeps, refer-state, refer-flag, refer-head, refer-read, linked-refer}
 
--- The references that must lead to marked objects: of the roots, and of the marked objects of clean partitions
+-- The references that must lead to marked objects: of the roots, of the handles, and of the marked objects of clean partitions
 abbrev pub Live : (n S : ℕ) → Image → (κ : Key) → Holder n κ → Type 0
-Live n S img κ (a-root l) = Unit {0}
+Live n S img κ (an-anchor l) = Unit {0}
 Live n S img κ (a-field {j = i} l m) = (get img (state i) ≡ 2) × (get img (flag (partOf S i)) ≢ 0)
 
 pub record Clean (P S : ℕ) (img : Image) : Type 0 where
@@ -51,7 +51,7 @@ module _ (P S : ℕ) (limits : Limits P S) where
           rw e (up-marked x y _ u (w .refs κ h ne' .0) (c .leads κ h v ne'))
 
       go : (κ : Key) (h : Holder (P * S) κ) → Live (P * S) S y κ h → get y κ ≢ 0 → get y (state (placeOf S (get y κ))) ≡ 2
-      go κ (a-root l) v ne = old κ (a-root l) tt ne
+      go κ (an-anchor l) v ne = old κ (an-anchor l) tt ne
       go κ (a-field {j = i} {k = k} l m) v ne =
           let f : get x (flag (partOf S i)) ≢ 0 = ⊎-elim (λ s q. v .1 (s ∙ q)) (λ s q. v .1 s) (u .flags (partOf S i) (parts P S (limits .some-slot) i l)) in
           ⊎-elim (λ s. old (field i k) (a-field l m) (sym s ∙ v .0, f) ne)
@@ -188,7 +188,7 @@ module _ (P S : ℕ) (limits : Limits P S) where
         }
       where
         live : (μ : Key) (g : Holder (P * S) μ) → Live (P * S) S (refer S x κ w) μ g → Live (P * S) S x μ g
-        live μ (a-root l) v = tt
+        live μ (an-anchor l) v = tt
         live μ (a-field {j = i} l m) v = (sym (same-state i) ∙ v .0, λ f. let q = parts P S (limits .some-slot) i l in v .1 (refer-flag P S limits x κ w h z (partOf S i) (omega arith) ∙ f))
 
   -- the end of a trace
@@ -234,7 +234,7 @@ module _ (P S : ℕ) (limits : Limits P S) where
       hd κ h = other κ (holder-in h) (flag-holder h p) (head-holder h 3)
 
       leads : (κ : Key) (h : Holder (P * S) κ) → Live (P * S) S (put y count (get x count + 1)) κ h → get x κ ≢ 0 → get x (state (placeOf S (get x κ))) ≡ 2
-      leads κ (a-root m) v ne = ph .clean .leads κ (a-root m) tt ne
+      leads κ (an-anchor m) v ne = ph .clean .leads κ (an-anchor m) tt ne
       leads κ (a-field {j = i} {k = k} m r) v ne = go (ℕ-discrete p (partOf S i))
         where
           go : Dec (p ≡ partOf S i) → get x (state (placeOf S (get x (field i k)))) ≡ 2

@@ -74,7 +74,7 @@ module _ (P S : ℕ) (limits : Limits P S) where
         heap = e .heap;
         lowest-first = tracing ne (can-trace P S limits y (partition p) (g .phase) (u .0) (u .1)) (e .lowest-first);
         few = omega (arith, t .counted, e .few);
-        closable = λ r. e .closable (rooted-stays y (traceOne S p y) (λ i l. trace-other P S limits y p (u .0) (g .phase .linked) (root i) l (λ t. refl) (λ q. refl) refl) r);
+        closable = λ r. e .closable (rooted-stays y (traceOne S p y) (λ i l. trace-other P S limits y p (u .0) (g .phase .linked) (root i) (omega arith) (λ t. refl) (λ q. refl) refl) r);
       })
       (eq-or-ne (notClean P y) 0)
 

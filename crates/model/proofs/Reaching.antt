@@ -11,7 +11,7 @@ use borrow.Author.Tests.{eqb-true, eqb-false, not-true, ltb-true}
 use Rattle.kinds.specs.Names.{mostPartitions, mostSlots}
 use Rattle.kinds.specs.declared.Operation.{Operation}
 use Rattle.kinds.specs.declared.Partition.{Partition}
-use Rattle.kinds.specs.declared.Single.the-variants.{Open, Trace, Close, Local}
+use Rattle.kinds.specs.declared.Single.the-variants.{Open, Trace, Close, Local, Hold, Drop}
 use Rattle.kinds.specs.declared.Verdict.the-variants.{Accepted}
 use Rattle.model.specs.Image.{Image, flag, phase, count, addr, get, blank}
 use Rattle.model.specs.Acts.{Act, commit, single, localBits, localUp, isOpen, perform, apply}
@@ -21,7 +21,7 @@ use Rattle.model.specs.History.{Run, still, acted}
 use Rattle.model.proofs.Keys.{blank-zero, sized-length}
 use Rattle.model.proofs.Phase.{Phase}
 use Rattle.model.proofs.Tracing.{phase-trace}
-use Rattle.model.proofs.Committing.{check-true, Good, commit-keeps, phase-perform, perform-head}
+use Rattle.model.proofs.Committing.{check-true, Good, commit-keeps, good-hold, good-drop, phase-perform, perform-head}
 use Rattle.model.proofs.Opening.{Shut, phase-open}
 use Rattle.model.proofs.Closing.{close-phase}
 use Rattle.model.specs.Questions.{hasBit}
@@ -71,7 +71,7 @@ module _ (P S : ℕ) (limits : Limits P S) where
   heap-perform x o g (inr ph) = inr (phase-perform P S limits x o g ph)
 
   heap-keeps : (x : Image) (a : Act) → judge P S x a ≡ Accepted → SoundAt P S x → Heap x → Heap (apply P S x a)
-  unfolding judge apply localUp
+  unfolding judge apply localUp perform
   heap-keeps x (commit os) j w h = commit-keeps P S Heap heap-perform x 1 os (check-true _ _ _ _ j .1) h
   heap-keeps x (single Open) j s h = inr (phase-open P S limits x (sound-linked P S x s))
   heap-keeps x (single (Trace p)) j w h = let t = traced-is x p j in inr (phase-trace P S limits (p .0) (t .1) x (is-open x h (t .0)) (t .2))
@@ -80,6 +80,8 @@ module _ (P S : ℕ) (limits : Limits P S) where
   heap-keeps x (single (Local p)) j s (inr ph) =
       let l = ltb-true (p .0) P (check-true _ _ _ _ j .0) in
       inr (free-phase P S limits S (λ i. p .0 * S + i) (hasBit (localBits P S (p .0) x)) (local-in P S x s (p .0) l) x (sized-length P S x (s .length-agrees)) (local-apart P S x s (p .0) l) ph)
+  heap-keeps x (single (Hold h n)) j s g = heap-perform x _ (good-hold P S x h n j) g
+  heap-keeps x (single (Drop h)) j s g = heap-perform x _ (good-drop P S x h j) g
 
   -- What holds of every heap that acts lead to
   pub record Reached (x : Image) : Type 0 where

@@ -16,12 +16,12 @@ use Rattle.kinds.specs.Answers.{refuse}
 use Rattle.kinds.specs.declared.Operation.{Operation}
 use Rattle.kinds.specs.declared.Operation.the-variants.{New, Set, Val, Root}
 use Rattle.kinds.specs.declared.Partition.{Partition}
-use Rattle.kinds.specs.declared.Single.the-variants.{Open, Trace, Close, Local}
+use Rattle.kinds.specs.declared.Single.the-variants.{Open, Trace, Close, Local, Hold, Drop}
 use Rattle.kinds.specs.declared.Verdict.{Verdict}
 use Rattle.kinds.specs.declared.Verdict.the-variants.{Accepted, Refused}
-use Rattle.model.specs.Image.{Image, Key, root, flag, state, field, count, allowance, anchors, get, placeOf, partOf, a-root, a-field}
+use Rattle.model.specs.Image.{Image, Key, anchor, flag, state, field, count, allowance, anchors, get, placeOf, partOf, an-anchor, a-field}
 use Rattle.model.specs.Acts.{Act, commit, single, marked, isOpen, perform, notClean}
-use Rattle.model.specs.Judge.{check, andThen, judgeOp, judgeOps, rooted, leadsOn, led, judge}
+use Rattle.model.specs.Judge.{check, andThen, judgeOp, judgeOps, rooted, leadsOn, led, judgeName, judge}
 use Rattle.model.specs.Sound.{Limits}
 use Rattle.model.proofs.Places.{parts}
 use Rattle.model.proofs.Phase.{Phase, open-true}
@@ -100,7 +100,7 @@ module _ (P S : ℕ) (limits : Limits P S) where
   marks-lead : (x : Image) → Phase P S x → notClean P x ≡ 0 → led P S x ≡ true
   unfolding led
   marks-lead x ph all =
-      let roots : every anchors (λ r. leadsOn S x (root r)) ≡ true = every-so anchors _ (λ r l. leads-on S x (root r) (λ ne. ph .clean .leads (root r) (a-root l) tt ne)) in
+      let roots : every anchors (λ r. leadsOn S x (anchor r)) ≡ true = every-so anchors _ (λ r l. leads-on S x (anchor r) (λ ne. ph .clean .leads (anchor r) (an-anchor l) tt ne)) in
       rw roots (every-so (P * S) _ (λ i l. go i l (marked x i) refl))
     where
       go : (i : ℕ) → i < P * S → (b : Bool) → marked x i ≡ b → cond b (every 4 (λ k. leadsOn S x (field i k))) true ≡ true
@@ -120,7 +120,7 @@ module _ (P S : ℕ) (limits : Limits P S) where
   can-close x ph all r = rw (open-true P S limits x ph, r, all, marks-lead x ph all)
 
   mild : (x : Image) → Heap P S limits x → (a : Act) → Mild (judge P S x a)
-  unfolding judge Mild
+  unfolding judge judgeName Mild
   mild x h (commit os) = check-mild _ 6 0 _ (omega arith) (λ a. ops-mild P S x 1 os)
   mild x h (single Open) = check-mild _ 11 0 _ (omega arith) (λ a. check-mild _ 12 0 _ (omega arith) (λ b. tt))
   mild x h (single (Trace p)) =
@@ -130,6 +130,8 @@ module _ (P S : ℕ) (limits : Limits P S) where
       check-mild _ 10 0 _ (omega arith)
       (λ a. check-mild _ 12 0 _ (omega arith) (λ l. check-mild _ 14 _ _ (omega arith) (λ f. pass-mild _ 16 0 (marks-lead x (is-open P S limits x h a) (eqb-true _ _ f)))))
   mild x h (single (Local p)) = check-mild _ 7 0 _ (omega arith) (λ a. check-mild _ 12 0 _ (omega arith) (λ b. tt))
+  mild x h (single (Hold g n)) = check-mild _ 7 0 _ (omega arith) (λ a. check-mild _ 7 0 _ (omega arith) (λ b. check-mild _ 9 0 _ (omega arith) (λ u. tt)))
+  mild x h (single (Drop g)) = check-mild _ 7 0 _ (omega arith) (λ a. tt)
 
   -- 15 and 16 never come
   pub never-15-16 : (x : Image) → Heap P S limits x → (a : Act) (e : ℕ) → (judge P S x a ≢ refuse 15 e) × (judge P S x a ≢ refuse 16 e)

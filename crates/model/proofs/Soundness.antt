@@ -11,10 +11,10 @@ use Rattle.loops.specs.Loop.{both, every}
 use Rattle.loops.proofs.Tests.{both-true, both-so, is-false, clash, eq-or-ne}
 use Rattle.loops.proofs.Loops.{every-true, every-so}
 use Rattle.kinds.specs.Names.{radix, mostPartitions, mostSlots}
-use Rattle.model.specs.Image.{Image, Key, root, flag, state, payload, field, partitions, slots, phase, count, allowance, anchors, get, lengthOf, size, placeOf, Holder, a-root, a-field}
+use Rattle.model.specs.Image.{Image, Key, anchor, flag, state, payload, field, partitions, slots, phase, count, allowance, anchors, get, lengthOf, size, placeOf, Holder, an-anchor, a-field}
 use Rattle.model.specs.Acts.{used, marked, isOpen}
 use Rattle.model.specs.Judge.{inLimits}
-use Rattle.model.specs.Sound.{Limits, inRange, refOk, freeOk, slotOk, countOk, Right, rootOk, flagOk, flagDown, unmarkedAt, openOk, shutOk, soundAt, isSound, NamesUsed, Free, ShutHead, OpenHead, SoundAt, Sound}
+use Rattle.model.specs.Sound.{Limits, inRange, refOk, freeOk, slotOk, countOk, Right, anchorOk, flagOk, flagDown, unmarkedAt, openOk, shutOk, soundAt, isSound, NamesUsed, Free, ShutHead, OpenHead, SoundAt, Sound}
 
 -- what a test of the form "this, or else that" tells, and how it passes
 cond-true : (a b : Bool) → cond a true b ≡ true → a ≡ false → b ≡ true
@@ -157,13 +157,13 @@ module _ (P S : ℕ) (x : Image) where
   pub ref-not : (κ : Key) → get x κ ≢ 0 → (NamesUsed P S x κ → ⊥) → refOk P S x κ ≡ false
   ref-not κ n h = is-false (refOk P S x κ) (λ e. h (ref-true κ e n))
 
-  pub root-true : (r : ℕ) → rootOk P S x r ≡ true → get x (root r) ≢ 0 → NamesUsed P S x (root r)
-  unfolding rootOk
-  root-true r e = ref-true (root r) e
+  pub anchor-true : (r : ℕ) → anchorOk P S x r ≡ true → get x (anchor r) ≢ 0 → NamesUsed P S x (anchor r)
+  unfolding anchorOk
+  anchor-true r e = ref-true (anchor r) e
 
-  pub root-back : (r : ℕ) → (get x (root r) ≢ 0 → NamesUsed P S x (root r)) → rootOk P S x r ≡ true
-  unfolding rootOk
-  root-back r h = ref-back (root r) h
+  pub anchor-back : (r : ℕ) → (get x (anchor r) ≢ 0 → NamesUsed P S x (anchor r)) → anchorOk P S x r ≡ true
+  unfolding anchorOk
+  anchor-back r h = ref-back (anchor r) h
 
   -- a slot
   pub slot-true : (j : ℕ) → slotOk P S x j ≡ true → SlotOk P S x j
@@ -265,7 +265,7 @@ module _ (P S : ℕ) (x : Image) where
       let d = both-true (leb (get x phase) 1) _ (b .1) in
       let f = both-true (every (P * S) (slotOk P S x)) _ (d .1) in
       let c = both-true (every (P * S) (countOk S (P * S) x)) _ (f .1) in
-      let g = both-true (every anchors (rootOk P S x)) _ (c .1) in
+      let g = both-true (every anchors (anchorOk P S x)) _ (c .1) in
       let h = both-true (every mostPartitions (flagOk P x)) phaseOk (g .1) in
       record {
         limits = limits-true P S (a .0);
@@ -281,8 +281,8 @@ module _ (P S : ℕ) (x : Image) where
         opened = phase-opened (h .1);
       }
     where
-      refs : every (P * S) (slotOk P S x) ≡ true → every anchors (rootOk P S x) ≡ true → (κ : Key) → Holder (P * S) κ → get x κ ≢ 0 → NamesUsed P S x κ
-      refs s r κ (a-root {r = q} l) = root-true q (every-true anchors (rootOk P S x) r q l)
+      refs : every (P * S) (slotOk P S x) ≡ true → every anchors (anchorOk P S x) ≡ true → (κ : Key) → Holder (P * S) κ → get x κ ≢ 0 → NamesUsed P S x κ
+      refs s r κ (an-anchor {a = q} l) = anchor-true q (every-true anchors (anchorOk P S x) r q l)
       refs s r κ (a-field {j = j} {k = k} l m) = slot-true j (every-true (P * S) (slotOk P S x) s j l) .refers k m
 
   -- a slot and a flag of a sound image
@@ -301,7 +301,7 @@ module _ (P S : ℕ) (x : Image) where
         le-leb (get x phase) 1 (h .phase-bit),
         every-so (P * S) (slotOk P S x) (λ j l. slot-back j (sound-slot h j l)),
         right-back (h .right),
-        every-so anchors (rootOk P S x) (λ r l. root-back r (h .references (root r) (a-root l))),
+        every-so anchors (anchorOk P S x) (λ r l. anchor-back r (h .references (anchor r) (an-anchor l))),
         every-so mostPartitions (flagOk P x) (λ p l. flag-back P x p (sound-flag h p l)),
       )
       (phase-back (h .phase-bit) (h .shut) (h .opened))

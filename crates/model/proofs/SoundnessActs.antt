@@ -4,38 +4,39 @@ use Prim.Native.Nat.{ℕ, _+_, _*_, _-_, _/_, _%_, _≤_, _<_}
 use mathlib.Core.Path.{_≡_, refl, _∙_}
 use mathlib.Core.Bool.{Bool, true, false}
 use mathlib.Core.List.{List}
-use mathlib.Core.Logic.{_≢_}
+use mathlib.Core.Logic.{_≢_, ⊎-elim}
 use native.Mathlib.Omega.{arith}
 use native.Mathlib.Decide.{ℕ-discrete}
 use lib.Dec.{eqb}
 use lib.ListN.{replicate}
 use borrow.Author.Tests.{eqb-true, eqb-false, not-true, ltb-true}
 use Rattle.loops.specs.Loop.{tally}
+use Rattle.loops.proofs.Tests.{lt-or-ge}
 use Rattle.loops.proofs.Loops.{each-keeps, tally-le}
-use Rattle.kinds.specs.Names.{radix, mostPartitions, wordOf}
+use Rattle.kinds.specs.Names.{radix, mostPartitions, roots, wordOf}
 use Rattle.kinds.specs.declared.Name.{Name}
 use Rattle.kinds.specs.declared.Target.{Target}
 use Rattle.kinds.specs.declared.Target.the-variants.{Object}
 use Rattle.kinds.specs.declared.Operation.{Operation}
-use Rattle.kinds.specs.declared.Single.the-variants.{Open, Trace, Close, Local}
+use Rattle.kinds.specs.declared.Single.the-variants.{Open, Trace, Close, Local, Hold, Drop}
 use Rattle.kinds.specs.declared.Verdict.the-variants.{Accepted}
-use Rattle.model.specs.Image.{Image, Key, addr, blank, partitions, slots, head, root, flag, state, payload, inlist, field, phase, count, allowance, anchors, get, put, place, placeOf, Holder, a-root, a-field}
-use Rattle.model.specs.Acts.{Act, commit, single, localBits, localUp, marked, closeUp, refers, target, own, foreign, mark, markWord, perform, unmarked, unclean, markRoots, allow, openUp, inside, outside, finish, traceOne, apply}
+use Rattle.model.specs.Image.{Image, Key, addr, blank, partitions, slots, head, anchor, flag, state, payload, inlist, field, phase, count, allowance, anchors, get, put, place, placeOf, Holder, an-anchor, a-field}
+use Rattle.model.specs.Acts.{Act, commit, single, localBits, localUp, marked, closeUp, refers, target, own, foreign, mark, markWord, perform, unmarked, unclean, markAnchors, allow, openUp, inside, outside, finish, traceOne, apply}
 use Rattle.model.specs.Judge.{inLimits, led, judge}
 use Rattle.model.specs.History.{Run, still, acted}
 use Rattle.model.specs.Sound.{Limits, isSound, Sound, NamesUsed, Right, ShutHead, SoundAt}
-use Rattle.model.proofs.Keys.{Sized, sized-length, get-put-apart, get-put-same, sized-put, zeros, blank-sized, blank-partitions, blank-slots, blank-zero}
+use Rattle.model.proofs.Keys.{Sized, sized-length, get-put-apart, get-put-same, sized-put, root-addr, handle-addr, zeros, blank-sized, blank-partitions, blank-slots, blank-zero}
 use Rattle.model.proofs.Places.{slot-in, word-none, place-word}
 use Rattle.model.proofs.Spreading.{pass-keeps, spread-keeps}
 use Rattle.model.proofs.Moves.{Linked}
 use Rattle.model.proofs.Tracing.{refers-is}
-use Rattle.model.proofs.Committing.{check-true, May, none, some, Good, good-new, good-set, good-val, good-root, commit-keeps}
-use Rattle.model.proofs.Closing.{Content, the-payload, the-field, Leading, led-leads, close-size, close-phase, close-count, close-allowance, close-flag, close-state, close-freed, close-kept, close-root}
+use Rattle.model.proofs.Committing.{check-true, May, none, some, Good, good-new, good-set, good-val, good-root, commit-keeps, good-hold, good-drop}
+use Rattle.model.proofs.Closing.{Content, the-payload, the-field, Leading, led-leads, close-size, close-phase, close-count, close-allowance, close-flag, close-state, close-freed, close-kept, close-anchor}
 use Rattle.model.proofs.Making.{made, made-close, made-local, made-heading}
 use Rattle.model.proofs.Counting.{right-put, right-made, right-blank}
 use Rattle.model.specs.Questions.{hasBit}
 use Rattle.model.proofs.Freeing.{Apart, free-sound}
-use Rattle.model.proofs.Localizing.{choice, local-roots, local-fields}
+use Rattle.model.proofs.Localizing.{choice, local-anchors, local-fields}
 use Rattle.model.proofs.Soundness.{limits-true, sound-true, sound-back, sound-not}
 use Rattle.model.proofs.SoundnessMoves.{WordUsed, Body, Head, Holds, sound-of, sound-linked, sound-body, put-written, holds-self, holds-more, open-head, head-written, holds-flag, holds-mark, holds-mark-word, holds-payload, holds-store, holds-born, reference-place}
 
@@ -66,7 +67,7 @@ module _ (P S : ℕ) where
   holds-perform x _ (good-set {n = n} {k = k} {t = t} l m b u d) s =
       holds-store P S x (field (place S n) k) t (a-field (slot-in P S (s .limits .some-slot) _ _ l m) b) u (target-word x t s d) s
   holds-perform x _ (good-val l m u) s = holds-payload P S x _ _ (slot-in P S (s .limits .some-slot) _ _ l m) u s
-  holds-perform x _ (good-root {r = r} {t = t} l d) s = holds-store P S x (root r) t (a-root l) tt (target-word x t s d) s
+  holds-perform x _ (good-root {r = r} {t = t} l d) s = holds-store P S x (anchor r) t (an-anchor l) tt (target-word x t s d) s
 
   -- OPEN: every step keeps soundness, the phase being open with count and allowance 0 at first
   pub holds-unclean : (x : Image) → SoundAt P S x → Holds P S x (unclean x)
@@ -75,13 +76,13 @@ module _ (P S : ℕ) where
       each-keeps (Holds P S x) mostPartitions (λ y p. put y (flag p) 0)
       (λ y p l h. holds-more P S h (holds-flag P S y p 0 l (omega arith) (λ q. refl) (λ q. refl) (h .sound))) x (holds-self P S x s)
 
-  pub holds-mark-roots : (x : Image) → get x phase ≡ 1 → SoundAt P S x → Holds P S x (markRoots S x)
-  unfolding markRoots
-  holds-mark-roots x o s =
-      each-keeps (Holds P S x) anchors (λ y r. markWord S y (get y (root r)))
+  pub holds-mark-anchors : (x : Image) → get x phase ≡ 1 → SoundAt P S x → Holds P S x (markAnchors S x)
+  unfolding markAnchors
+  holds-mark-anchors x o s =
+      each-keeps (Holds P S x) anchors (λ y r. markWord S y (get y (anchor r)))
       (λ y r l h.
       holds-more P S h
-      (holds-mark-word P S y (get y (root r)) (λ n. reference-place P S y (root r) (a-root l) n (h .sound)) (h .heads 2 (omega arith) ∙ o) (h .sound))) x
+      (holds-mark-word P S y (get y (anchor r)) (λ n. reference-place P S y (anchor r) (an-anchor l) n (h .sound)) (h .heads 2 (omega arith) ∙ o) (h .sound))) x
       (holds-self P S x s)
 
   -- count 0, and an allowance of at most P + P·S
@@ -112,8 +113,8 @@ module _ (P S : ℕ) where
       let c₁ : get y count ≡ 0 = get-put-apart x phase 1 count (omega arith) (omega arith) refl ∙ t .counted in
       let h : Holds P S y (unclean y) = holds-unclean y (sound-put x 2 1 (omega arith) s (open-head P S y o₁ (omega arith) (omega arith))) in
       let o₂ : get (unclean y) phase ≡ 1 = h .heads 2 (omega arith) ∙ o₁ in
-      let g : Holds P S (unclean y) (markRoots S (unclean y)) = holds-mark-roots (unclean y) o₂ (h .sound) in
-      allow-sound (markRoots S (unclean y)) (g .heads 2 (omega arith) ∙ o₂) (g .sound)
+      let g : Holds P S (unclean y) (markAnchors S (unclean y)) = holds-mark-anchors (unclean y) o₂ (h .sound) in
+      allow-sound (markAnchors S (unclean y)) (g .heads 2 (omega arith) ∙ o₂) (g .sound)
 
   -- TRACE: both halves are rows of marks
   module _ (x : Image) (p : ℕ) (l : p < P) (o : get x phase ≡ 1) where
@@ -161,7 +162,7 @@ module _ (P S : ℕ) where
       let t : get x count ≤ get x allowance = s .opened o .counted in
       finish-sound y p l (h .heads 2 (omega arith) ∙ o) (omega arith) (h .sound)
 
-  -- CLOSE: where 16 finds nothing, what roots and objects refer to was marked and stays
+  -- CLOSE: where 16 finds nothing, what roots, handles and marked objects refer to was marked and stays
   module _ (x : Image) (s : SoundAt P S x) (on : led P S x ≡ true) where
     after : Image
     after = closeUp P S x
@@ -204,7 +205,7 @@ module _ (P S : ℕ) where
 
     closed-references : (κ : Key) → Holder (P * S) κ → get after κ ≢ 0 → NamesUsed P S after κ
     unfolding after
-    closed-references _ (a-root {r = r} l) n = closed-names (root r) (a-root l) tt (close-root P S limits x linked r l) n
+    closed-references _ (an-anchor {a = r} l) n = closed-names (anchor r) (an-anchor l) tt (close-anchor P S limits x linked r l) n
     closed-references _ (a-field {j = j} {k = k} l m) n =
         let w = closed-word (the-field m) l n in
         let b = s .states j l in
@@ -248,7 +249,7 @@ module _ (P S : ℕ) where
     unfolding after
     close-sound = sound-of P S after limits closed-body closed-head
 
-  -- LOCAL: with right counts, roots and what stays refer to what stays
+  -- LOCAL: with right counts, roots, handles and what stays refer to what stays
   module _ (x : Image) (s : SoundAt P S x) (p : ℕ) (l : p < P) where
     refs : (κ : Key) → Holder (P * S) κ → get x κ ≢ 0 → placeOf S (get x κ) < P * S
     refs κ h n = reference-place P S x κ h n s
@@ -260,7 +261,7 @@ module _ (P S : ℕ) where
     local-apart =
         record {
           choice = choice P S (s .limits .some-slot) p l x refs;
-          roots = local-roots P S (s .limits .some-slot) p l x refs (s .right);
+          anchored = local-anchors P S (s .limits .some-slot) p l x refs (s .right);
           fields = local-fields P S (s .limits .some-slot) p l x refs (s .right);
         }
 
@@ -275,7 +276,7 @@ module _ (P S : ℕ) where
 
   -- EVERY ACT
   pub act-sound : (x : Image) (a : Act) → SoundAt P S x → judge P S x a ≡ Accepted → SoundAt P S (apply P S x a)
-  unfolding judge apply
+  unfolding judge apply perform
   act-sound x (commit os) s j =
       commit-keeps P S (SoundAt P S) (λ y o g t. holds-perform y o g t .sound) x 1 os (check-true _ _ _ _ j .1) s
   act-sound x (single Open) s j =
@@ -294,6 +295,8 @@ module _ (P S : ℕ) where
       let c = check-true _ _ _ _ (b .1) in
       close-sound x s (check-true _ _ _ _ (c .1) .0)
   act-sound x (single (Local p)) s j = local-sound x s (p .0) (ltb-true (p .0) P (check-true _ _ _ _ j .0))
+  act-sound x (single (Hold h n)) s j = holds-perform x _ (good-hold P S x h n j) s .sound
+  act-sound x (single (Drop h)) s j = holds-perform x _ (good-drop P S x h j) s .sound
 
   -- words 0 and 1 stay
   act-words : (x : Image) (a : Act) (h : ℕ) → h < 2 → SoundAt P S x → judge P S x a ≡ Accepted → get (apply P S x a) (head h) ≡ get x (head h)
@@ -335,7 +338,8 @@ module _ (P S : ℕ) (x : Image) (s : SoundAt P S x) where
 module _ (P S : ℕ) where
   blank-holder : (κ : Key) → Holder (P * S) κ → get (blank P S) κ ≡ 0
   unfolding addr
-  blank-holder _ (a-root {r = r} l) = blank-zero P S (root r) (omega arith)
+  blank-holder _ (an-anchor {a = a} l) =
+      blank-zero P S (anchor a) (⊎-elim (λ r. omega (arith, root-addr a r)) (λ h. omega (arith, handle-addr a h)) (lt-or-ge a roots))
   blank-holder _ (a-field {j = j} {k = k} l m) = blank-zero P S (field j k) (omega arith)
 
   blank-state : (j : ℕ) → get (blank P S) (state j) ≡ 0

@@ -11,7 +11,7 @@ use Rattle.loops.specs.Loop.{both}
 use Rattle.loops.proofs.Tests.{both-true}
 use Rattle.kinds.specs.Names.{radix, mostPartitions, wordOf}
 use Rattle.kinds.specs.declared.Target.{Target}
-use Rattle.model.specs.Image.{Image, Key, head, root, flag, state, payload, inlist, field, phase, count, allowance, get, put, placeOf, partOf, refer, Holder, a-root, a-field}
+use Rattle.model.specs.Image.{Image, Key, head, anchor, flag, state, payload, inlist, field, phase, count, allowance, get, put, placeOf, partOf, refer, Holder, an-anchor, a-field}
 use Rattle.model.specs.Acts.{isOpen, mark, markWord, store, born}
 use Rattle.model.specs.Sound.{Limits, NamesUsed, Free, Right, ShutHead, OpenHead, SoundAt}
 use Rattle.model.proofs.Keys.{Fits, In, Sized, kind, major, minor, same, touches, NoCount, touches-same, same-touches, in-fits, get-put-apart, get-put-same, sized-put, refer-apart, refer-same, sized-refer, sized-length, length-sized}
@@ -23,7 +23,7 @@ use Rattle.model.proofs.Counting.{right-put, right-refer}
 -- a key from its numbers
 build : ℕ → ℕ → ℕ → Key
 build zero m a = head a
-build (suc zero) m a = root a
+build (suc zero) m a = anchor a
 build (suc (suc zero)) m a = flag a
 build (suc (suc (suc zero))) m a = state a
 build (suc (suc (suc (suc zero)))) m a = payload a
@@ -33,7 +33,7 @@ build (suc (suc (suc (suc (suc (suc n)))))) m a = inlist a
 build-key : (κ : Key) → build (kind κ) (minor κ) (major κ) ≡ κ
 unfolding build
 build-key (head h) = refl
-build-key (root r) = refl
+build-key (anchor r) = refl
 build-key (flag p) = refl
 build-key (state j) = refl
 build-key (payload j) = refl
@@ -90,14 +90,14 @@ pub record WordUsed (P S : ℕ) (x : Image) (w : ℕ) : Type 0 where
 -- what may be written at a key: a flag within the rule, a state in use, the payload or a reference of a slot in use, a reference to one
 abbrev pub Allowed : ℕ → ℕ → Image → ℕ → Key → Type 0
 Allowed P S x v (head h) = Unit {0}
-Allowed P S x v (root r) = v ≢ 0 → WordUsed P S x v
+Allowed P S x v (anchor r) = v ≢ 0 → WordUsed P S x v
 Allowed P S x v (flag p) = (v ≤ 1) × (P ≤ p → v ≡ 0)
 Allowed P S x v (state j) = (v ≢ 0) × (v ≤ 2)
 Allowed P S x v (payload j) = get x (state j) ≢ 0
 Allowed P S x v (inlist j) = ⊥
 Allowed P S x v (field j k) = (get x (state j) ≢ 0) × (v ≢ 0 → WordUsed P S x v)
 
--- what soundness asks of the slots, the roots and the flags, whatever the phase
+-- what soundness asks of the slots, the roots, the handles and the flags, whatever the phase
 pub record Body (P S : ℕ) (x : Image) : Type 0 where
   pub sized : Sized (P * S) x
   pub states : (j : ℕ) → j < P * S → get x (state j) ≤ 2
@@ -191,8 +191,8 @@ module _ (P S : ℕ) where
             }
 
         refs : (μ : Key) → Holder (P * S) μ → get y μ ≢ 0 → NamesUsed P S y μ
-        refs _ (a-root {r = r} l) =
-            ⊎-elim (λ q. fresh (root r) (q .1) (at (root r) (q .0))) (λ q. old (root r) q (b .references (root r) (a-root l))) (written-read w (root r) l refl)
+        refs _ (an-anchor {a = r} l) =
+            ⊎-elim (λ q. fresh (anchor r) (q .1) (at (anchor r) (q .0))) (λ q. old (anchor r) q (b .references (anchor r) (an-anchor l))) (written-read w (anchor r) l refl)
         refs _ (a-field {j = j} {k = k} l m) =
             ⊎-elim (λ q. fresh (field j k) (q .1) (at (field j k) (q .0) .1)) (λ q. old (field j k) q (b .references (field j k) (a-field l m)))
             (written-read w (field j k) m refl)
@@ -200,7 +200,7 @@ module _ (P S : ℕ) where
 -- a word outside the head, and what may be written there while the phase is shut: no flag, no mark
 abbrev pub Beside : Key → Type 0
 Beside (head h) = ⊥
-Beside (root r) = Unit {0}
+Beside (anchor r) = Unit {0}
 Beside (flag p) = Unit {0}
 Beside (state j) = Unit {0}
 Beside (payload j) = Unit {0}
@@ -209,7 +209,7 @@ Beside (field j k) = Unit {0}
 
 abbrev pub Quiet : ℕ → Key → Type 0
 Quiet v (head h) = Unit {0}
-Quiet v (root r) = Unit {0}
+Quiet v (anchor r) = Unit {0}
 Quiet v (flag p) = v ≡ 0
 Quiet v (state j) = v ≢ 2
 Quiet v (payload j) = Unit {0}
@@ -218,7 +218,7 @@ Quiet v (field j k) = Unit {0}
 
 beside-head : (κ : Key) → Beside κ → (h : ℕ) → touches κ (head h) ≡ false
 beside-head (head g) b h = absurd b
-beside-head (root r) b h = refl
+beside-head (anchor r) b h = refl
 beside-head (flag p) b h = refl
 beside-head (state j) b h = refl
 beside-head (payload j) b h = refl
@@ -340,10 +340,10 @@ module _ (P S : ℕ) where
   holds-mark-word x w l o s =
       mark-word-keeps P S (s .limits) (Holds P S x) x w (λ n. holds-mark x (placeOf S w) (l n) o s) (λ e. holds-self x s)
 
-  -- a reference of a root or of an object, to nothing or an object
+  -- a reference of a root, a handle or an object, to nothing or an object
   abbrev pub HolderUsed : Image → Key → Type 0
   HolderUsed x (head h) = ⊥
-  HolderUsed x (root r) = Unit {0}
+  HolderUsed x (anchor r) = Unit {0}
   HolderUsed x (flag p) = ⊥
   HolderUsed x (state j) = ⊥
   HolderUsed x (payload j) = ⊥
@@ -351,13 +351,13 @@ module _ (P S : ℕ) where
   HolderUsed x (field j k) = get x (state j) ≢ 0
 
   pub holds-refer : (x : Image) (κ : Key) (w : ℕ) → Holder (P * S) κ → HolderUsed x κ → (w ≢ 0 → WordUsed P S x w) → SoundAt P S x → Holds P S x (refer S x κ w)
-  holds-refer x _ w (a-root {r = r} l) u t s =
-      holds-written {κ = root r} tt t (λ z. tt) (right-refer (P * S) S x (root r) w (a-root l) (sound-body P S x s .sized)) (refer-written (P * S) x (root r) w (sound-body P S x s .sized) l S) s
+  holds-refer x _ w (an-anchor {a = r} l) u t s =
+      holds-written {κ = anchor r} tt t (λ z. tt) (right-refer (P * S) S x (anchor r) w (an-anchor l) (sound-body P S x s .sized)) (refer-written (P * S) x (anchor r) w (sound-body P S x s .sized) l S) s
   holds-refer x _ w (a-field {j = j} {k = k} l m) u t s =
       holds-written {κ = field j k} tt (u, t) (λ z. tt) (right-refer (P * S) S x (field j k) w (a-field l m) (sound-body P S x s .sized)) (refer-written (P * S) x (field j k) w (sound-body P S x s .sized) (l, m) S) s
 
   holder-still : {x y : Image} {κ : Key} → Holder (P * S) κ → Holds P S x y → HolderUsed x κ → HolderUsed y κ
-  holder-still (a-root l) h u = tt
+  holder-still (an-anchor l) h u = tt
   holder-still (a-field {j = j} l m) h u = h .in-use j u
 
   word-still : {x y : Image} {w : ℕ} → Holds P S x y → WordUsed P S x w → WordUsed P S y w

@@ -5,17 +5,20 @@ use mathlib.Core.Path.{_≡_, refl, sym, ap, _∙_}
 use mathlib.Core.List.{List, [], _∷_, _++_}
 use native.Mathlib.Omega.{arith}
 use borrow.Author.Tests.{eqb-true, ltb-true}
+use Rattle.kinds.specs.declared.Handle.{Handle}
+use Rattle.kinds.specs.declared.Target.{Target}
+use Rattle.kinds.specs.declared.Target.the-variants.{Nothing, Object}
 use Rattle.kinds.specs.declared.Operation.{Operation}
 use Rattle.kinds.specs.declared.Partition.{Partition}
-use Rattle.kinds.specs.declared.Single.the-variants.{Open, Trace, Close, Local}
+use Rattle.kinds.specs.declared.Single.the-variants.{Open, Trace, Close, Local, Hold, Drop}
 use Rattle.kinds.specs.declared.Verdict.the-variants.{Accepted}
-use Rattle.model.specs.Image.{Image, phase, addr, get, blank}
-use Rattle.model.specs.Acts.{Act, commit, single, apply}
+use Rattle.model.specs.Image.{Image, handle, phase, addr, get, blank}
+use Rattle.model.specs.Acts.{Act, commit, single, store, perform, apply}
 use Rattle.model.specs.Judge.{judge}
 use Rattle.model.specs.History.{Run, still, acted, Unclosed}
 use Rattle.model.specs.Sound.{Limits}
 use Rattle.model.proofs.Keys.{blank-zero}
-use Rattle.model.proofs.Committing.{check-true, commit-keeps, perform-head}
+use Rattle.model.proofs.Committing.{check-true, Good, commit-keeps, taking, good-hold, good-drop, perform-head}
 use Rattle.model.proofs.Closing.{close-phase}
 use Rattle.model.proofs.SoundnessMoves.{sound-linked}
 use Rattle.model.proofs.Collecting.{local-head}
@@ -46,6 +49,10 @@ module _ (P S : ℕ) (limits : Limits P S) where
   unfolding judge apply
   local-phase {acts} {y} p r j = local-head P S (p .0) (ltb-true (p .0) P (check-true _ _ _ _ j .0)) y (reached P S limits acts y r .sound) 2 (omega arith)
 
+  take-phase : (y : Image) (h : Handle) (t : Target) → Good P S y (taking h t) → get (store S y (handle (h .0)) t) phase ≡ get y phase
+  unfolding perform
+  take-phase y h t g = perform-head P S limits y (taking h t) 2 (omega arith) g
+
   blank-shut : get (blank P S) phase ≡ 0
   unfolding addr
   blank-shut = blank-zero P S phase (omega arith)
@@ -66,6 +73,7 @@ module _ (P S : ℕ) (limits : Limits P S) where
       }
 
   pub in-phase : {acts : List Act} {y : Image} → Run P S (blank P S) acts y → get y phase ≡ 1 → InPhase P S acts y
+  unfolding apply
   in-phase still e = let z = blank-shut in absurd (omega arith)
   in-phase (acted {y = y} (commit os) r j) e = further (commit os) (λ u c. c) j (in-phase r (sym (commit-phase y os j) ∙ e))
   in-phase (acted {acts = acts} {y = y} (single Open) r j) e =
@@ -73,3 +81,5 @@ module _ (P S : ℕ) (limits : Limits P S) where
   in-phase (acted {y = y} (single (Trace p)) r j) e = further (single (Trace p)) (λ u c. c) j (in-phase r (eqb-true _ _ (traced-is P S limits y p j .0)))
   in-phase (acted (single Close) r j) e = let z = closing-phase r in absurd (omega arith)
   in-phase (acted (single (Local p)) r j) e = further (single (Local p)) (λ u c. c) j (in-phase r (sym (local-phase p r j) ∙ e))
+  in-phase (acted {y = y} (single (Hold h n)) r j) e = further (single (Hold h n)) (λ u c. c) j (in-phase r (sym (take-phase y h (Object n) (good-hold P S y h n j)) ∙ e))
+  in-phase (acted {y = y} (single (Drop h)) r j) e = further (single (Drop h)) (λ u c. c) j (in-phase r (sym (take-phase y h Nothing (good-drop P S y h j)) ∙ e))

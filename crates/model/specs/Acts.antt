@@ -7,11 +7,12 @@ use lib.ListN.{replicate}
 use Rattle.loops.specs.Loop.{each, both, tally}
 use Rattle.kinds.specs.Names.{wordOf, mostPartitions}
 use Rattle.kinds.specs.declared.Target.{Target}
+use Rattle.kinds.specs.declared.Target.the-variants.{Nothing, Object}
 use Rattle.kinds.specs.declared.Operation.{Operation}
 use Rattle.kinds.specs.declared.Operation.the-variants.{New, Set, Val, Root}
 use Rattle.kinds.specs.declared.Single.{Single}
-use Rattle.kinds.specs.declared.Single.the-variants.{Open, Trace, Close, Local}
-use Rattle.model.specs.Image.{Image, Key, root, flag, state, payload, inlist, field, phase, count, allowance, anchors, get, put, place, placeOf, partOf, refer, release}
+use Rattle.kinds.specs.declared.Single.the-variants.{Open, Trace, Close, Local, Hold, Drop}
+use Rattle.model.specs.Image.{Image, Key, root, handle, anchor, flag, state, payload, inlist, field, phase, count, allowance, anchors, get, put, place, placeOf, partOf, refer, release}
 use Rattle.model.specs.Spread.{pass, spread}
 use Rattle.model.specs.Questions.{Bits, hasBit, addBit, collect, held, heldAt}
 
@@ -38,7 +39,7 @@ mark S img j = cond (eqb (get img (state j)) 1) (put (put img (flag (partOf S j)
 unfoldable pub markWord : ℕ → Image → ℕ → Image
 markWord S img w = cond (eqb w 0) img (mark S img (placeOf S w))
 
--- COMMIT: a field or a root takes a target, which is marked while a phase is open
+-- COMMIT, HOLD and DROP: a field, a root or a handle takes a target: nothing, or an object, which is marked while a phase is open
 unfoldable pub store : ℕ → Image → Key → Target → Image
 store S img κ t = refer S (cond (isOpen img) (markWord S img (wordOf t)) img) κ (wordOf t)
 
@@ -68,15 +69,15 @@ notClean P img = tally P (λ p. eqb (get img (flag p)) 0)
 unfoldable pub unclean : Image → Image
 unclean img = each mostPartitions (λ x p. put x (flag p) 0) img
 
--- OPEN: what roots name is marked; all partitions not clean; count 0; allowance P plus the objects then in use and unmarked
-unfoldable pub markRoots : ℕ → Image → Image
-markRoots S img = each anchors (λ x r. markWord S x (get x (root r))) img
+-- OPEN: what roots and handles name is marked; all partitions not clean; count 0; allowance P plus the objects then in use and unmarked
+unfoldable pub markAnchors : ℕ → Image → Image
+markAnchors S img = each anchors (λ x a. markWord S x (get x (anchor a))) img
 
 unfoldable pub allow : ℕ → ℕ → Image → Image
 allow P S img = put (put img count 0) allowance (P + unmarked (P * S) img)
 
 unfoldable pub openUp : ℕ → ℕ → Image → Image
-openUp P S img = allow P S (markRoots S (unclean (put img phase 1)))
+openUp P S img = allow P S (markAnchors S (unclean (put img phase 1)))
 
 -- TRACE: a field of the object at j refers to a wanted place, and to which
 abbrev pub refers : ℕ → (ℕ → Bool) → Image → ℕ → ℕ → Bool
@@ -122,11 +123,11 @@ shut img = put (put (put (unclean img) phase 0) count 0) allowance 0
 unfoldable pub closeUp : ℕ → ℕ → Image → Image
 closeUp P S img = shut (each (P * S) (settle S) img)
 
--- LOCAL: of p, what a root names, and what fields of other partitions name by its count
+-- LOCAL: of p, what a root or a handle names, and what fields of other partitions name by its count
 unfoldable pub localStart : ℕ → ℕ → ℕ → Image → Bits
 localStart P S p img =
     collect S (λ s. held img (inlist (p * S + s))) (λ s. p * S + s)
-    (collect anchors (λ r. both (held img (root r)) (own S p (heldAt S img (root r)))) (λ r. heldAt S img (root r)) (replicate (P * S) 0))
+    (collect anchors (λ a. both (held img (anchor a)) (own S p (heldAt S img (anchor a)))) (λ a. heldAt S img (anchor a)) (replicate (P * S) 0))
 
 -- and what chains inside p lead to from there
 unfoldable pub localBits : ℕ → ℕ → ℕ → Image → Bits
@@ -152,3 +153,5 @@ apply P S img (single Open) = openUp P S img
 apply P S img (single (Trace p)) = traceOne S (p .0) img
 apply P S img (single Close) = closeUp P S img
 apply P S img (single (Local p)) = localUp P S (p .0) img
+apply P S img (single (Hold h n)) = store S img (handle (h .0)) (Object n)
+apply P S img (single (Drop h)) = store S img (handle (h .0)) Nothing

@@ -8,12 +8,13 @@ use mathlib.Core.Logic.{_≢_}
 use lib.Dec.{eqb}
 use lib.ListN.{length}
 use Rattle.kinds.specs.declared.Name.{Name}
+use Rattle.kinds.specs.declared.Handle.{Handle}
 use Rattle.kinds.specs.declared.Target.the-variants.{Object}
 use Rattle.kinds.specs.declared.Operation.{Operation}
 use Rattle.kinds.specs.declared.Operation.the-variants.{New, Set, Val, Root}
 use Rattle.kinds.specs.declared.Single.{Single}
-use Rattle.kinds.specs.declared.Single.the-variants.{Open}
-use Rattle.model.specs.Image.{Image, Key, root, state, payload, field, anchors, get, place, placeOf, partOf}
+use Rattle.kinds.specs.declared.Single.the-variants.{Open, Hold}
+use Rattle.model.specs.Image.{Image, Key, anchor, state, payload, field, anchors, get, place, placeOf, partOf}
 use Rattle.model.specs.Spread.{Reach}
 use Rattle.model.specs.Acts.{Act, commit, single}
 
@@ -22,9 +23,9 @@ pub record Names (S : ℕ) (img : Image) (κ : Key) (j : ℕ) : Type 0 where
   pub some : get img κ ≢ 0
   pub target : placeOf S (get img κ) ≡ j
 
--- a root names the object at j
-abbrev pub Rooted : ℕ → Image → ℕ → Type 0
-Rooted S img j = (r : ℕ) × (r < anchors) × Names S img (root r) j
+-- a root or a handle names the object at j
+abbrev pub Anchored : ℕ → Image → ℕ → Type 0
+Anchored S img j = (a : ℕ) × (a < anchors) × Names S img (anchor a) j
 
 -- a field of an object in another partition names the object at j, of n places
 pub record NamedAbroad (n S : ℕ) (img : Image) (j : ℕ) : Type 0 where
@@ -35,9 +36,16 @@ pub record NamedAbroad (n S : ℕ) (img : Image) (j : ℕ) : Type 0 where
   pub elsewhere : partOf S holder ≢ partOf S j
   pub names : Names S img (field holder k) j
 
--- a root leads to the object at a place
+-- a field of the object at i names the object at j
+abbrev pub Along : ℕ → Image → ℕ → ℕ → Type 0
+Along S img i j = (k : ℕ) × (k < 4) × Names S img (field i k) j
+
+-- what κ names and, along fields, leads to; and what a root or a handle leads to
+abbrev pub LeadsFrom : ℕ → Image → Key → ℕ → Type 0
+LeadsFrom S img κ = Reach (Names S img κ) (Along S img)
+
 abbrev pub Leads : ℕ → Image → ℕ → Type 0
-Leads S img = Reach (Rooted S img) (λ i j. (k : ℕ) × (k < 4) × Names S img (field i k) j)
+Leads S img = Reach (Anchored S img) (Along S img)
 
 -- from x to y the object at place j stays in use, with its payload and its fields
 pub record Stays (x y : Image) (j : ℕ) : Type 0 where
@@ -78,14 +86,15 @@ pub data Since (base : List Step) : List Step → Step → List Step → Type 0 
   last : {s : Step} {h : List Step} → Above base h → Since base (s ∷ h) s h
   before : {s b : Step} {e h : List Step} → Since base h s e → Since base (b ∷ h) s e
 
--- A chain to the object at a place with a birth: it starts at a root held at the opening or at an object created or stored as a reference
--- since, and uses references held at the opening or stored since. x is the heap at the opening, `base` the steps up to there, and
--- `Taken s e` says that the step s was taken since, with e before it.
+-- A chain to the object at a place with a birth: it starts at what a root or a handle named at the opening, or at an object created since or
+-- stored as a reference since, in a field, a root or a handle, and uses references held at the opening or stored since. x is the heap at the
+-- opening, `base` the steps up to there, and `Taken s e` says that the step s was taken since, with e before it.
 pub data Chain (S : ℕ) (x : Image) (base : List Step) (Taken : Step → List Step → Type 0) : ℕ → ℕ → Type 0 where
-  from-root : {r j : ℕ} → r < anchors → Names S x (root r) j → Chain S x base Taken j (birth S base j)
+  from-anchor : {a j : ℕ} → a < anchors → Names S x (anchor a) j → Chain S x base Taken j (birth S base j)
   created : {n : Name} {v : ℕ} {e : List Step} → Taken (op (New n v)) e → Chain S x base Taken (place S n) (birth S (op (New n v) ∷ e) (place S n))
   stored-field : {n q : Name} {k : ℕ} {e : List Step} → Taken (op (Set n k (Object q))) e → Chain S x base Taken (place S q) (birth S e (place S q))
   stored-root : {r : ℕ} {q : Name} {e : List Step} → Taken (op (Root r (Object q))) e → Chain S x base Taken (place S q) (birth S e (place S q))
+  stored-handle : {h : Handle} {q : Name} {e : List Step} → Taken (did (Hold h q)) e → Chain S x base Taken (place S q) (birth S e (place S q))
   along-held : {i k j : ℕ} → Chain S x base Taken i (birth S base i) → k < 4 → Names S x (field i k) j → Chain S x base Taken j (birth S base j)
   along-stored : {n q : Name} {k : ℕ} {e : List Step} → Chain S x base Taken (place S n) (birth S e (place S n)) → Taken (op (Set n k (Object q))) e
       → Chain S x base Taken (place S q) (birth S e (place S q))

@@ -8,21 +8,22 @@ use mathlib.Core.Logic.{_≢_, _⊎_}
 use Rattle.loops.specs.Loop.{both, tally}
 use Rattle.kinds.specs.Names.{mostPartitions, wordOf}
 use Rattle.kinds.specs.declared.Name.{Name}
+use Rattle.kinds.specs.declared.Handle.{Handle}
 use Rattle.kinds.specs.declared.Target.{Target}
-use Rattle.kinds.specs.declared.Target.the-variants.{Object}
+use Rattle.kinds.specs.declared.Target.the-variants.{Nothing, Object}
 use Rattle.kinds.specs.declared.Operation.{Operation}
 use Rattle.kinds.specs.declared.Operation.the-variants.{New, Set, Val, Root}
-use Rattle.kinds.specs.declared.Single.the-variants.{Open, Trace, Close, Local}
-use Rattle.model.specs.Image.{Image, Key, head, root, flag, state, payload, inlist, field, isCount, phase, count, allowance, anchors, get, lengthOf, place, partOf}
+use Rattle.kinds.specs.declared.Single.the-variants.{Open, Trace, Close, Local, Hold, Drop}
+use Rattle.model.specs.Image.{Image, Key, head, root, handle, anchor, flag, state, payload, inlist, field, isCount, phase, count, allowance, anchors, get, lengthOf, place, partOf}
 use Rattle.model.specs.Spread.{Reach}
 use Rattle.model.specs.Acts.{Act, commit, single, used, isOpen, unmarked, localFreed}
-use Rattle.model.specs.Chains.{Names, Rooted, Leads}
+use Rattle.model.specs.Chains.{Names, Anchored, Leads}
 use Rattle.model.specs.Sound.{Right}
 
 -- the words of an image of n places
 abbrev pub In : ℕ → Key → Type 0
 In n (head h) = h < 5
-In n (root r) = r < anchors
+In n (anchor a) = a < anchors
 In n (flag p) = p < mostPartitions
 In n (state j) = j < n
 In n (payload j) = j < n
@@ -44,9 +45,8 @@ Stores (Set n k t) q = t ≡ Object q
 Stores (Val n v) q = ⊥
 Stores (Root r t) q = t ≡ Object q
 
--- while a phase is open, a reference to an unmarked object
-pub record StoresUnmarked (S : ℕ) (x : Image) (o : Operation) (q : Name) : Type 0 where
-  pub stores : Stores o q
+-- a phase is open, and the object q unmarked
+pub record Unmarked (S : ℕ) (x : Image) (q : Name) : Type 0 where
   pub opened : get x phase ≡ 1
   pub unmarked : get x (state (place S q)) ≡ 1
 
@@ -62,8 +62,8 @@ pub data Performs (S : ℕ) (x : Image) : Operation → Key → ℕ → Type 0 w
   set : {n : Name} {k : ℕ} {t : Target} → Performs S x (Set n k t) (field (place S n) k) (wordOf t)
   root-to : {r : ℕ} {t : Target} → Performs S x (Root r t) (root r) (wordOf t)
   -- while a phase is open a stored reference marks its target; if the target was unmarked, its partition stops being clean
-  marks-stored : {o : Operation} {q : Name} → StoresUnmarked S x o q → Performs S x o (state (place S q)) 2
-  uncleans-stored : {o : Operation} {q : Name} → StoresUnmarked S x o q → Performs S x o (flag (q .partition .0)) 0
+  marks-stored : {o : Operation} {q : Name} → Stores o q → Unmarked S x q → Performs S x o (state (place S q)) 2
+  uncleans-stored : {o : Operation} {q : Name} → Stores o q → Unmarked S x q → Performs S x o (flag (q .partition .0)) 0
 
 abbrev pub Performed : ℕ → ℕ → Image → Operation → Image → Type 0
 Performed P S x o y = Leaves (P * S) S x (Performs S x o) y
@@ -73,9 +73,10 @@ pub data Committed (P S : ℕ) : Image → List Operation → Image → Type 0 w
   nothing-more : {x : Image} → Committed P S x [] x
   and-then : {x y z : Image} {o : Operation} {os : List Operation} → Performed P S x o y → Committed P S y os z → Committed P S x (o ∷ os) z
 
--- OPEN: what roots name is marked; all partitions not clean; the phase open, count 0, allowance P plus the number of objects then in use and unmarked
+-- OPEN: what roots and handles name is marked; all partitions not clean; the phase open, count 0, allowance P plus the number of objects then in use
+-- and unmarked
 pub data Opens (P S : ℕ) (x y : Image) : Key → ℕ → Type 0 where
-  marks-rooted : {r j : ℕ} → r < anchors → Names S x (root r) j → Opens P S x y (state j) 2
+  marks-anchored : {a j : ℕ} → a < anchors → Names S x (anchor a) j → Opens P S x y (state j) 2
   uncleans-all : {p : ℕ} → Opens P S x y (flag p) 0
   opens : Opens P S x y phase 1
   restarts : Opens P S x y count 0
@@ -131,10 +132,10 @@ pub record Closed (P S : ℕ) (x y : Image) : Type 0 where
   -- the number that close answers
   pub number : unmarked (P * S) x ≡ freed (P * S) x y
 
--- LOCAL p: what stays of p, the least set that holds the objects of p that a root or a counted foreign reference names, and everything that p's fields
--- inside p lead to from them
+-- LOCAL p: what stays of p, the least set that holds the objects of p that a root, a handle or a counted foreign reference names, and everything that
+-- p's fields inside p lead to from them
 abbrev pub KeptIn : ℕ → ℕ → Image → ℕ → Type 0
-KeptIn S p x = Reach (λ j. (partOf S j ≡ p) × (Rooted S x j ⊎ (get x (inlist j) ≢ 0))) (Inward S p x)
+KeptIn S p x = Reach (λ j. (partOf S j ≡ p) × (Anchored S x j ⊎ (get x (inlist j) ≢ 0))) (Inward S p x)
 
 -- every other object of p becomes free, seven zeros (the count by `right`)
 pub data Localizes (S p : ℕ) (x : Image) : Key → ℕ → Type 0 where
@@ -147,13 +148,23 @@ pub record Localized (P S p : ℕ) (x y : Image) : Type 0 where
   -- the number that local answers
   pub number : localFreed P S p x ≡ freed (P * S) x y
 
+-- HOLD and DROP: a handle takes the word of an object, or 0 for nothing; while a phase is open hold marks its target as a stored reference does: if the
+-- target was unmarked, its partition stops being clean
+pub data Takes (S : ℕ) (x : Image) (h : Handle) : Target → Key → ℕ → Type 0 where
+  takes : {t : Target} → Takes S x h t (handle (h .0)) (wordOf t)
+  marks-held : {q : Name} → Unmarked S x q → Takes S x h (Object q) (state (place S q)) 2
+  uncleans-held : {q : Name} → Unmarked S x q → Takes S x h (Object q) (flag (q .partition .0)) 0
+
+abbrev pub Took : ℕ → ℕ → Handle → Target → Image → Image → Type 0
+Took P S h t x y = Leaves (P * S) S x (Takes S x h t) y
+
 -- from x to y the object at place j is untouched, but for its count
 pub record Untouched (x y : Image) (j : ℕ) : Type 0 where
   pub state-stays : get y (state j) ≡ get x (state j)
   pub value-stays : get y (payload j) ≡ get x (payload j)
   pub fields-stay : (k : ℕ) → k < 4 → get y (field j k) ≡ get x (field j k)
 
--- what a customer asks of a local collection of p: it leaves alone what a root leads to, and every other partition
+-- what a customer asks of a local collection of p: it leaves alone what a root or a handle leads to, and every other partition
 pub record Spares (P S p : ℕ) (x y : Image) : Type 0 where
   pub led : (j : ℕ) → Leads S x j → Untouched x y j
   pub elsewhere : (j : ℕ) → j < P * S → partOf S j ≢ p → Untouched x y j
@@ -165,3 +176,5 @@ Effect P S (single Open) x y = Opened P S x y
 Effect P S (single (Trace p)) x y = Traced P S (p .0) x y
 Effect P S (single Close) x y = Closed P S x y
 Effect P S (single (Local p)) x y = Localized P S (p .0) x y
+Effect P S (single (Hold h n)) x y = Took P S h (Object n) x y
+Effect P S (single (Drop h)) x y = Took P S h Nothing x y

@@ -5,9 +5,9 @@ use mathlib.Core.List.{List, [], _∷_}
 use mathlib.Core.Path.{_≡_}
 use lib.Dec.{eqb}
 use Rattle.loops.specs.Loop.{both, every, tally}
-use Rattle.kinds.specs.declared.Single.the-variants.{Open, Trace, Close, Local}
+use Rattle.kinds.specs.declared.Single.the-variants.{Open, Trace, Close, Local, Hold, Drop}
 use Rattle.kinds.specs.declared.Verdict.the-variants.{Accepted}
-use Rattle.model.specs.Image.{Image, Key, root, anchors, get, placeOf}
+use Rattle.model.specs.Image.{Image, Key, anchor, anchors, get, placeOf}
 use Rattle.model.specs.Acts.{Act, commit, single, used, apply}
 use Rattle.model.specs.Judge.{judge}
 
@@ -28,6 +28,8 @@ traces (single Open ∷ acts) = traces acts
 traces (single (Trace p) ∷ acts) = traces acts + 1
 traces (single Close ∷ acts) = traces acts
 traces (single (Local p) ∷ acts) = traces acts
+traces (single (Hold h n) ∷ acts) = traces acts
+traces (single (Drop h) ∷ acts) = traces acts
 
 -- a history that closes no phase
 abbrev pub Unclosed : List Act → Type 0
@@ -37,11 +39,13 @@ Unclosed (single Open ∷ acts) = Unclosed acts
 Unclosed (single (Trace p) ∷ acts) = Unclosed acts
 Unclosed (single Close ∷ acts) = ⊥
 Unclosed (single (Local p) ∷ acts) = Unclosed acts
+Unclosed (single (Hold h n) ∷ acts) = Unclosed acts
+Unclosed (single (Drop h) ∷ acts) = Unclosed acts
 
--- the root or field κ names the object at j
+-- the root, handle or field κ names the object at j
 abbrev pub names : ℕ → Image → Key → ℕ → Bool
 names S img κ j = both (not (eqb (get img κ) 0)) (eqb (placeOf S (get img κ)) j)
 
--- W: the objects in use that no root names
-unfoldable pub unrooted : ℕ → ℕ → Image → ℕ
-unrooted P S img = tally (P * S) (λ j. both (used img j) (every anchors (λ r. not (names S img (root r) j))))
+-- W: the objects in use that neither a root nor a handle names
+unfoldable pub unanchored : ℕ → ℕ → Image → ℕ
+unanchored P S img = tally (P * S) (λ j. both (used img j) (every anchors (λ a. not (names S img (anchor a) j))))

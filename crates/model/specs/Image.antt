@@ -3,25 +3,32 @@ use Prim.Native.Nat.{ℕ, _+_, _*_, _-_, _/_, _%_, _<_}
 use mathlib.Core.Bool.{Bool, true, false, not, cond}
 use mathlib.Core.List.{List, _∷_}
 use mathlib.Core.Path.{_≡_}
-use lib.Dec.{eqb}
+use lib.Dec.{eqb, ltb}
 use lib.ListN.{getD, set, length, replicate}
 use Rattle.loops.specs.Loop.{both}
-use Rattle.kinds.specs.Names.{radix}
+use Rattle.kinds.specs.Names.{radix, roots, handles}
 use Rattle.kinds.specs.declared.Name.{Name}
 
 abbrev pub Image : Type 0
 Image = List ℕ
 
--- a word of the image: of the head, a root, a partition's flag, and of a place its state, its payload, its fields and its count (the inlist of source
--- document 002): the number of fields of objects in other partitions that name it
+-- a word of the image: of the head, an anchor (what holds a reference and is no field: the roots, then the session handles), a partition's flag, and of a
+-- place its state, its payload, its fields and its count (the inlist of source document 002): the number of fields of objects in other partitions that name it
 pub data Key : Type 0 where
-  head root flag state payload inlist : ℕ → Key
+  head anchor flag state payload inlist : ℕ → Key
   field : ℕ → ℕ → Key
+
+-- root r, and session handle h
+abbrev pub root : ℕ → Key
+root r = anchor r
+
+abbrev pub handle : ℕ → Key
+handle h = anchor (roots + h)
 
 -- a word is a count of foreign references
 abbrev pub isCount : Key → Bool
 isCount (head h) = false
-isCount (root r) = false
+isCount (anchor a) = false
 isCount (flag p) = false
 isCount (state j) = false
 isCount (payload j) = false
@@ -44,20 +51,20 @@ count = head 3
 abbrev pub allowance : Key
 allowance = head 4
 
--- the words before the slots, the words of a slot, and the holders that are no fields: the roots
+-- the words before the slots, the words of a slot, and the number of anchors: 16 roots and 32 handles
 abbrev pub front : ℕ
-front = 37
+front = 69
 
 abbrev pub stride : ℕ
 stride = 7
 
 abbrev pub anchors : ℕ
-anchors = 16
+anchors = roots + handles
 
--- the paper's table of words
+-- the paper's table of words: roots at 5 to 20, flags at 21 to 36, handles at 37 to 68, then seven words a slot
 unfoldable pub addr : Key → ℕ
 addr (head h) = h
-addr (root r) = 5 + r
+addr (anchor a) = cond (ltb a roots) (5 + a) (37 + (a - roots))
 addr (flag p) = 21 + p
 addr (state j) = front + stride * j
 addr (payload j) = front + stride * j + 1
@@ -120,7 +127,7 @@ gain S j w img = cond (abroad S j w) (oneMore S w img) img
 -- the counts where κ takes the word w: only fields count
 unfoldable pub recount : ℕ → Image → Key → ℕ → Image
 recount S img (head h) w = img
-recount S img (root r) w = img
+recount S img (anchor a) w = img
 recount S img (flag p) w = img
 recount S img (state j) w = img
 recount S img (payload j) w = img
@@ -134,7 +141,7 @@ refer S img κ w = put (recount S img κ w) κ w
 unfoldable pub release : ℕ → Image → Key → Image
 release S img κ = put (recount S img κ 0) κ 0
 
--- what holds a reference in an image of n places: a root, or a field of a place
+-- what holds a reference in an image of n places: a root, a handle, or a field of a place
 pub data Holder (n : ℕ) : Key → Type 0 where
-  a-root : {r : ℕ} → r < anchors → Holder n (root r)
+  an-anchor : {a : ℕ} → a < anchors → Holder n (anchor a)
   a-field : {j k : ℕ} → j < n → k < 4 → Holder n (field j k)

@@ -5,17 +5,17 @@ use mathlib.Core.List.{List, [], _∷_}
 use lib.Dec.{eqb, ltb, leb}
 use lib.ListN.{length}
 use Rattle.loops.specs.Loop.{both, every, first}
-use Rattle.kinds.specs.Names.{mostPartitions, mostSlots, mostOperations, roots}
+use Rattle.kinds.specs.Names.{mostPartitions, mostSlots, mostOperations, roots, handles}
 use Rattle.kinds.specs.Answers.{refuse}
 use Rattle.kinds.specs.declared.Name.{Name}
 use Rattle.kinds.specs.declared.Target.{Target}
 use Rattle.kinds.specs.declared.Target.the-variants.{Nothing, Object}
 use Rattle.kinds.specs.declared.Operation.{Operation}
 use Rattle.kinds.specs.declared.Operation.the-variants.{New, Set, Val, Root}
-use Rattle.kinds.specs.declared.Single.the-variants.{Open, Trace, Close, Local}
+use Rattle.kinds.specs.declared.Single.the-variants.{Open, Trace, Close, Local, Hold, Drop}
 use Rattle.kinds.specs.declared.Verdict.{Verdict}
 use Rattle.kinds.specs.declared.Verdict.the-variants.{Accepted, Refused}
-use Rattle.model.specs.Image.{Image, Key, root, flag, field, count, allowance, anchors, get, size, place, placeOf}
+use Rattle.model.specs.Image.{Image, Key, root, anchor, flag, field, count, allowance, anchors, get, size, place, placeOf}
 use Rattle.model.specs.Acts.{Act, commit, single, used, marked, isOpen, perform, notClean}
 
 -- the next check, if this one passes
@@ -61,24 +61,28 @@ unfoldable pub judgeOps : ℕ → ℕ → Image → ℕ → List Operation → V
 judgeOps P S img e [] = Accepted
 judgeOps P S img e (o ∷ os) = andThen (judgeOp P S img e o) (judgeOps P S (perform S img o) (e + 1) os)
 
--- a root is in use
+-- 12 looks at the root table only: a root is in use
 unfoldable pub rooted : Image → Bool
 rooted img = not (every roots (λ r. eqb (get img (root r)) 0))
 
--- a root or a marked object refers to marked objects only
+-- a root, a handle or a marked object refers to marked objects only
 abbrev pub leadsOn : ℕ → Image → Key → Bool
 leadsOn S img κ = cond (eqb (get img κ) 0) true (marked img (placeOf S (get img κ)))
 
 unfoldable pub led : ℕ → ℕ → Image → Bool
 led P S img =
-    both (every anchors (λ r. leadsOn S img (root r)))
+    both (every anchors (λ a. leadsOn S img (anchor a)))
     (every (P * S) (λ j. cond (marked img j) (every 4 (λ k. leadsOn S img (field j k))) true))
 
 -- the lowest partition that is not clean
 unfoldable pub lowest : ℕ → Image → ℕ
 lowest P img = first P 0 (λ p. eqb (get img (flag p)) 0)
 
--- commit 6, each operation; open 11, 12; trace 10, 7, 13, 15; close 10, 12, 14, 16; local 7, 12
+-- read, ask, and the object that a hold names: 7, 9
+unfoldable pub judgeName : ℕ → ℕ → Image → Name → Verdict
+judgeName P S img n = check (inHeap P S n) 7 0 (check (used img (place S n)) 9 0 Accepted)
+
+-- commit 6, each operation; open 11, 12; trace 10, 7, 13, 15; close 10, 12, 14, 16; local 7, 12; hold 7, 9; drop 7
 unfoldable pub judge : ℕ → ℕ → Image → Act → Verdict
 judge P S img (commit os) = check (both (ltb 0 (length os)) (leb (length os) mostOperations)) 6 0 (judgeOps P S img 1 os)
 judge P S img (single Open) = check (not (isOpen img)) 11 0 (check (rooted img) 12 0 Accepted)
@@ -90,11 +94,9 @@ judge P S img (single Close) =
     check (isOpen img) 10 0
     (check (rooted img) 12 0 (check (eqb (notClean P img) 0) 14 (lowest P img) (check (led P S img) 16 0 Accepted)))
 judge P S img (single (Local p)) = check (ltb (p .0) P) 7 0 (check (rooted img) 12 0 Accepted)
+judge P S img (single (Hold h n)) = check (ltb (h .0) handles) 7 0 (judgeName P S img n)
+judge P S img (single (Drop h)) = check (ltb (h .0) handles) 7 0 Accepted
 
 -- outlist: 7
 unfoldable pub judgeOutlist : ℕ → ℕ → Verdict
 judgeOutlist P p = check (ltb p P) 7 0 Accepted
-
--- read and ask: 7, 9
-unfoldable pub judgeName : ℕ → ℕ → Image → Name → Verdict
-judgeName P S img n = check (inHeap P S n) 7 0 (check (used img (place S n)) 9 0 Accepted)

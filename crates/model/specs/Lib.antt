@@ -9,3 +9,4 @@ pub mod Sound
 pub mod History
 pub mod Chains
 pub mod Effects
+pub mod Sessions

@@ -6,7 +6,7 @@ use mathlib.Core.Logic.{_≢_}
 use lib.Dec.{eqb, ltb, leb}
 use Rattle.loops.specs.Loop.{both, every, tally}
 use Rattle.kinds.specs.Names.{radix, mostPartitions, mostSlots}
-use Rattle.model.specs.Image.{Image, Key, root, flag, state, payload, inlist, field, abroad, partitions, slots, phase, count, allowance, anchors, get, lengthOf, size, placeOf, Holder}
+use Rattle.model.specs.Image.{Image, Key, anchor, flag, state, payload, inlist, field, abroad, partitions, slots, phase, count, allowance, anchors, get, lengthOf, size, placeOf, Holder}
 use Rattle.model.specs.Acts.{used, marked, isOpen}
 use Rattle.model.specs.Judge.{inLimits}
 
@@ -36,8 +36,8 @@ inCount S n x i = tally (4 * n) (λ f. points S (f / 4) (get x (field (f / 4) (f
 unfoldable pub countOk : ℕ → ℕ → Image → ℕ → Bool
 countOk S n x i = eqb (get x (inlist i)) (inCount S n x i)
 
-unfoldable pub rootOk : ℕ → ℕ → Image → ℕ → Bool
-rootOk P S x r = refOk P S x (root r)
+unfoldable pub anchorOk : ℕ → ℕ → Image → ℕ → Bool
+anchorOk P S x a = refOk P S x (anchor a)
 
 -- a flag is 0 or 1, and 0 from partition P on
 unfoldable pub flagOk : ℕ → Image → ℕ → Bool
@@ -66,7 +66,7 @@ soundAt P S x =
     (both (leb (get x phase) 1)
     (both (every (P * S) (slotOk P S x))
     (both (every (P * S) (countOk S (P * S) x))
-    (both (every anchors (rootOk P S x))
+    (both (every anchors (anchorOk P S x))
     (both (every mostPartitions (flagOk P x)) (cond (isOpen x) (openOk P S x) (shutOk P S x))))))))
 
 -- the test: P and S are words 0 and 1

@@ -8,7 +8,7 @@ use mathlib.Core.Logic.{_≢_}
 use native.Mathlib.Omega.{arith}
 use lib.ListN.{length}
 use Rattle.kinds.specs.Answers.{refuse}
-use Rattle.kinds.specs.declared.Single.the-variants.{Open, Trace, Close, Local}
+use Rattle.kinds.specs.declared.Single.the-variants.{Open, Trace, Close, Local, Hold, Drop}
 use Rattle.kinds.specs.declared.Refusal.{Refusal}
 use Rattle.kinds.specs.declared.Verdict.{Verdict}
 use Rattle.kinds.specs.declared.Verdict.the-variants.{Accepted, Refused}
@@ -112,6 +112,8 @@ call-ways img (single-call Open) log at = ways answered Done NotDone _ _ _ img l
 call-ways img (single-call (Trace p)) log at = ways answered Done NotDone _ _ _ img log at (λ n y g. refl) (λ r y g. refl)
 call-ways img (single-call Close) log at = ways closed-up (closed img) NotClosed _ _ _ img log at (λ n y g. refl) (λ r y g. refl)
 call-ways img (single-call (Local p)) log at = ways freed-up (freed img p) NotFreed _ _ _ img log at (λ n y g. refl) (λ r y g. refl)
+call-ways img (single-call (Hold h n)) log at = ways answered Done NotDone _ _ _ img log at (λ n y g. refl) (λ r y g. refl)
+call-ways img (single-call (Drop h)) log at = ways answered Done NotDone _ _ _ img log at (λ n y g. refl) (λ r y g. refl)
 
 -- 17 is not 0 either
 pub fully-beside : (k : ℕ) (u : Verdict) (bytes log : List ℕ) (at : ℕ) → 17 ≢ k → Beside k u → Beside k (fully u bytes log at)

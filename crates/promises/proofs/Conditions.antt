@@ -16,7 +16,7 @@ use Rattle.kinds.specs.Names.{mostPartitions, mostSlots, roots}
 use Rattle.kinds.specs.declared.Name.{Name}
 use Rattle.kinds.specs.declared.Target.{Target}
 use Rattle.kinds.specs.declared.Target.the-variants.{Nothing, Object}
-use Rattle.model.specs.Image.{Image, Key, root, flag, state, field, partitions, slots, phase, anchors, get, size, place, placeOf, a-root as holds-root, a-field as holds-field}
+use Rattle.model.specs.Image.{Image, Key, anchor, root, flag, state, field, partitions, slots, phase, anchors, get, size, place, placeOf, an-anchor as holds-anchor, a-field as holds-field}
 use Rattle.model.specs.Acts.{used, marked, isOpen, notClean}
 use Rattle.model.specs.Judge.{inLimits, inHeap, targetInHeap, targetUsed, rooted, leadsOn, led, lowest}
 use Rattle.model.specs.Sound.{isSound}
@@ -24,7 +24,7 @@ use Rattle.model.proofs.Closing.{led-leads}
 use Rattle.model.proofs.Progress.{lowest-unclean}
 use Rattle.model.proofs.Refusing.{all-clean}
 use Rattle.model.proofs.Soundness.{sound-true, sound-back}
-use Rattle.promises.specs.Rows.{Unsound, WrongSize, no-partition, many-partitions, no-slot, many-slots, wrong-length, TooLarge, TargetTooLarge, InUse, NotInUse, TargetNotInUse, NotOpen, AlreadyOpen, NoRoot, Clean, Lowest, Live, a-root, a-field, Astray}
+use Rattle.promises.specs.Rows.{Unsound, WrongSize, no-partition, many-partitions, no-slot, many-slots, wrong-length, TooLarge, TargetTooLarge, InUse, NotInUse, TargetNotInUse, NotOpen, AlreadyOpen, NoRoot, Clean, Lowest, Live, an-anchor, a-field, Astray}
 use Rattle.promises.proofs.Listing.{Tests}
 
 -- tests of numbers
@@ -148,7 +148,7 @@ leads-not S img κ e = go (eqb (get img κ) 0) refl e
 
 pub test-led : (img : Image) → Tests (led (get img partitions) (get img slots) img) (Astray img)
 unfolding led
-test-led img = record { fails = λ e. ⊎-elim roots-astray fields-astray (both-one _ _ e); passes = λ e a. go e (a .holder) (a .live) (a .some) (a .unmarked) }
+test-led img = record { fails = λ e. ⊎-elim anchors-astray fields-astray (both-one _ _ e); passes = λ e a. go e (a .holder) (a .live) (a .some) (a .unmarked) }
   where
     P : ℕ
     P = get img partitions
@@ -156,11 +156,11 @@ test-led img = record { fails = λ e. ⊎-elim roots-astray fields-astray (both-
     S : ℕ
     S = get img slots
 
-    roots-astray : every anchors (λ r. leadsOn S img (root r)) ≡ false → Astray img
-    roots-astray e =
-        let r = every-false anchors (λ r. leadsOn S img (root r)) e in
-        let n = leads-not S img (root (r .0)) (r .2) in
-        record { holder = root (r .0); live = a-root (r .1); some = n .0; unmarked = n .1 }
+    anchors-astray : every anchors (λ a. leadsOn S img (anchor a)) ≡ false → Astray img
+    anchors-astray e =
+        let a = every-false anchors (λ a. leadsOn S img (anchor a)) e in
+        let n = leads-not S img (anchor (a .0)) (a .2) in
+        record { holder = anchor (a .0); live = an-anchor (a .1); some = n .0; unmarked = n .1 }
 
     fields-astray : every (P * S) (λ j. cond (marked img j) (every 4 (λ k. leadsOn S img (field j k))) true) ≡ false → Astray img
     fields-astray e =
@@ -171,5 +171,5 @@ test-led img = record { fails = λ e. ⊎-elim roots-astray fields-astray (both-
         record { holder = field (j .0) (k .0); live = a-field (j .1) (eqb-true _ _ (c .0)) (k .1); some = n .0; unmarked = n .1 }
 
     go : led P S img ≡ true → (κ : Key) → Live img κ → get img κ ≢ 0 → get img (state (placeOf S (get img κ))) ≢ 2 → ⊥
-    go e _ (a-root {r = r} l) s u = u (led-leads P S img e (root r) (holds-root l) tt s)
+    go e _ (an-anchor {a = a} l) s u = u (led-leads P S img e (anchor a) (holds-anchor l) tt s)
     go e _ (a-field {j = j} {k = k} l m b) s u = u (led-leads P S img e (field j k) (holds-field l b) m s)

@@ -1,5 +1,5 @@
 -- What an accepted call makes of every word of the image, in the paper's sentences, and nothing else (model/specs/Effects.antt); what close and local answer, and
--- what local spares; and ask: yes exactly where a root leads to the object, no exactly where none does.
+-- what local spares; and ask: yes exactly where a root or a handle leads to the object, no exactly where none does.
 -- Assumes nothing.
 use Prim.Native.Nat.{ℕ, _+_, _*_, _≤_, _<_}
 use mathlib.Core.Path.{_≡_, refl, sym, ap, _∙_, subst}
@@ -17,7 +17,7 @@ use Rattle.kinds.specs.declared.Refusal.{Refusal}
 use Rattle.kinds.specs.declared.Single.the-variants.{Close, Local}
 use Rattle.kinds.specs.declared.Verdict.{Verdict}
 use Rattle.kinds.specs.declared.Verdict.the-variants.{Accepted, Refused}
-use Rattle.model.specs.Image.{Image, Key, head, root, flag, state, payload, inlist, field, isCount, partitions, slots, count, get, place, partOf}
+use Rattle.model.specs.Image.{Image, Key, head, anchor, flag, state, payload, inlist, field, isCount, partitions, slots, count, get, place, partOf}
 use Rattle.model.specs.Acts.{Act, single, apply}
 use Rattle.model.specs.Judge.{check, judge, judgeName}
 use Rattle.model.specs.Questions.{ask}
@@ -36,7 +36,7 @@ use Rattle.catalogue.specs.declared.Freeing.the-variants.{Freed, Refused as Not
 use Rattle.catalogue.specs.declared.Asked.the-variants.{Yes, No}
 use Rattle.catalogue.specs.Call.{perform, judgeAct, judgeObject, callBy, closed, closeOf, freed as freedBy, localOf, asked, askedOf}
 use Rattle.promises.specs.Calls.{Call, single-call, actOf, calling}
-use Rattle.promises.specs.Effects.{OfNoSlot, Exactly, Held, Led, Unled}
+use Rattle.promises.specs.Effects.{OfNoSlot, Exactly, Present, Led, Unled}
 use Rattle.promises.proofs.Calling.{call-judged, call-accepted}
 
 -- EVERY ACCEPTED CALL, on any words: P and S are words 0 and 1
@@ -71,7 +71,7 @@ close-answers img log at z =
 -- LOCAL, of partition p: what it writes is of a slot that p does not keep
 slot : Key → ℕ
 slot (head h) = 0
-slot (root r) = 0
+slot (anchor a) = 0
 slot (flag p) = 0
 slot (state j) = j
 slot (payload j) = j
@@ -80,7 +80,7 @@ slot (field j k) = j
 
 no-count : (κ : Key) → OfNoSlot κ → isCount κ ≡ false
 no-count (head h) o = refl
-no-count (root r) o = refl
+no-count (anchor a) o = refl
 no-count (flag p) o = refl
 no-count (state j) o = refl
 no-count (payload j) o = refl
@@ -110,7 +110,7 @@ module _ (img : Image) (p : Partition) (log : List ℕ) (at : ℕ) (z : (calling
   written : Leaves (get img partitions * get img slots) (get img slots) img (Localizes (get img slots) (p .0) img) ((calling img (single-call (Local p)) log at) .image)
   written = call-effect img (single-call (Local p)) log at z .words
 
-  -- it changes words of slots ONLY: no flag, no count of traces, no allowance
+  -- it changes words of slots ONLY: no root, no handle, no flag, no count of traces, no allowance
   pub local-rest : (κ : Key) → In (get img partitions * get img slots) κ → OfNoSlot κ → get ((calling img (single-call (Local p)) log at) .image) κ ≡ get img κ
   local-rest κ l o = ⊎-elim (λ w. absurd (written-slot (w .1) o)) (λ q. q) (written .others κ l (no-count κ o))
 
@@ -134,7 +134,7 @@ module _ (img : Image) (p : Partition) (log : List ℕ) (at : ℕ) (z : (calling
   local-frees j l own in-use =
       record { only = λ e k. in-use (sym (local-keeps j l k .state-stays) ∙ e); so = λ k. written .written (state j) 0 l (frees own k) }
 
-  -- it LEAVES ALONE what a root leads to, and every other partition
+  -- it LEAVES ALONE what a root or a handle leads to, and every other partition
   pub local-spares : Spares (get img partitions) (get img slots) (p .0) img ((calling img (single-call (Local p)) log at) .image)
   unfolding apply judge
   local-spares =
@@ -155,18 +155,18 @@ asked-no Accepted false e = (refl, refl)
 asked-no (Refused r) b e = absurd (let z : _≡_ {A = ℕ} 0 1 = cc in omega arith)
 
 module _ (img : Image) (n : Name) where
-  judged-held : judgeObject img n ≡ Accepted → Held img n
+  pub judged-present : judgeObject img n ≡ Accepted → Present img n
   unfolding judgeObject judgeName
-  judged-held j =
+  judged-present j =
       let a = check-true _ _ _ _ j in
       let b = check-true _ _ _ _ (a .1) in
       let h = both-true (ltb (n .partition .0) (get img partitions)) (ltb (n .slot .0) (get img slots)) (b .0) in
       record { sound = sound-true img (a .0); partition = ltb-true _ _ (h .0); slot = ltb-true _ _ (h .1); in-use = used-true img _ (check-true _ _ _ _ (b .1) .0) }
 
-  module _ (h : Held img n) where
-    held-asked : askedOf img n ≡ cond (ask (get img partitions) (get img slots) img (place (get img slots) n)) Yes No
+  module _ (h : Present img n) where
+    present-asked : askedOf img n ≡ cond (ask (get img partitions) (get img slots) img (place (get img slots) n)) Yes No
     unfolding askedOf judgeObject judgeName check
-    held-asked = rw (sound-back img (h .sound), lt-ltb _ _ (h .partition), lt-ltb _ _ (h .slot), used-back img _ (h .in-use))
+    present-asked = rw (sound-back img (h .sound), lt-ltb _ _ (h .partition), lt-ltb _ _ (h .slot), used-back img _ (h .in-use))
 
     led-asked : Leads (get img slots) img (place (get img slots) n) → ask (get img partitions) (get img slots) img (place (get img slots) n) ≡ true
     led-asked l = ask-so (get img partitions) (get img slots) img (λ κ g m. reference-place _ _ img κ g m (h .sound)) (place (get img slots) n) l
@@ -174,19 +174,19 @@ module _ (img : Image) (n : Name) where
     asked-led : ask (get img partitions) (get img slots) img (place (get img slots) n) ≡ true → Leads (get img slots) img (place (get img slots) n)
     asked-led e = ask-only (get img partitions) (get img slots) img (λ κ g m. reference-place _ _ img κ g m (h .sound)) (place (get img slots) n) e
 
-  -- YES EXACTLY where a root leads to the object, NO EXACTLY where none does
+  -- YES EXACTLY where a root or a handle leads to the object, NO EXACTLY where none does
   pub ask-yes : Exactly (askedOf img n ≡ Yes) (Led img n)
   unfolding askedOf
   ask-yes =
       record {
-        only = λ e. let a = asked-yes _ _ e in let h = judged-held (a .0) in record { held = h; leads = asked-led h (a .1) };
-        so = λ l. held-asked (l .held) ∙ rw (led-asked (l .held) (l .leads));
+        only = λ e. let a = asked-yes _ _ e in let h = judged-present (a .0) in record { present = h; leads = asked-led h (a .1) };
+        so = λ l. present-asked (l .present) ∙ rw (led-asked (l .present) (l .leads));
       }
 
   pub ask-no : Exactly (askedOf img n ≡ No) (Unled img n)
   unfolding askedOf
   ask-no =
       record {
-        only = λ e. let a = asked-no _ _ e in let h = judged-held (a .0) in record { held = h; none = λ l. clash (led-asked h l) (a .1) };
-        so = λ l. held-asked (l .held) ∙ rw (is-false _ (λ e. l .none (asked-led (l .held) e)));
+        only = λ e. let a = asked-no _ _ e in let h = judged-present (a .0) in record { present = h; none = λ l. clash (led-asked h l) (a .1) };
+        so = λ l. present-asked (l .present) ∙ rw (is-false _ (λ e. l .none (asked-led (l .present) e)));
       }

@@ -13,21 +13,23 @@ use Rattle.kinds.specs.declared.Name.{Name}
 use Rattle.kinds.specs.declared.Partition.{Partition}
 use Rattle.kinds.specs.declared.Operation.{Operation}
 use Rattle.kinds.specs.declared.Refusal.{Refusal}
+use Rattle.kinds.specs.declared.Single.{Single}
 use Rattle.kinds.specs.declared.Single.the-variants.{Open, Close, Local}
 use Rattle.kinds.specs.declared.Verdict.{Verdict}
 use Rattle.kinds.specs.declared.Verdict.the-variants.{Accepted}
 use Rattle.model.specs.Image.{Image}
+use Rattle.model.specs.Acts.{single}
 use Rattle.model.specs.Judge.{check}
 use Rattle.model.specs.Sound.{isSound}
 use Rattle.model.proofs.SoundnessActs.{zeros-unsound}
 use Rattle.lines.specs.Line.{tailOk}
 use Rattle.journal.specs.Recover.{Stand, early, going, stopped, reader, feedAll, refusal, recovery, atEnd, answer, recoverOf}
 use Rattle.catalogue.specs.Answers.{Said, refusedWith, said, totals, saidClosing, yield, saidFreeing, saidListing, saidReading, saidAsked}
-use Rattle.catalogue.specs.Call.{perform, judgeAct, judgeCommit, judgeForeign, judgeObject, callBy, commitOf, openOf, traceOf, closeOf, localOf, listingOf, readingOf, askedOf}
+use Rattle.catalogue.specs.Call.{perform, judgeAct, judgeCommit, judgeForeign, judgeObject, callBy, callOf, commitOf, closeOf, localOf, listingOf, readingOf, askedOf}
 use Rattle.promises.specs.Rows.{Row, given, Found, telled, First, Unsound, NoRoot}
 use Rattle.promises.specs.Calls.{Call, single-call, calling}
 use Rattle.promises.proofs.Calling.{Refusing, refused-leaves}
-use Rattle.promises.proofs.Refusals.{open-first, close-first, local-first}
+use Rattle.promises.proofs.Refusals.{act-first, close-first, local-first}
 
 -- A REFUSED RECOVERY LEAVES ZEROS and keeps nothing
 pub refused-recovery : (log : List ℕ) (len : ℕ) → (recoverOf log len) .verdict ≢ Accepted → ((recoverOf log len) .image ≡ replicate len 0) × ((recoverOf log len) .kept ≡ 0)
@@ -50,8 +52,8 @@ unsound = record { number = 1; extra = 0 }
 
 pub record Refuses-1 (img : Image) : Type 0 where
   pub commit : (ops : List Operation) (n : ℕ) (log : List ℕ) (at : ℕ) → said ((commitOf img ops n log at) .answer) ≡ refusedWith 0 unsound
-  pub open-up : (log : List ℕ) (at : ℕ) → said ((openOf img log at) .answer) ≡ refusedWith 0 unsound
-  pub trace : (p : Partition) (log : List ℕ) (at : ℕ) → said ((traceOf img p log at) .answer) ≡ refusedWith 0 unsound
+  -- open, trace, hold and drop
+  pub act : (a : Single) (log : List ℕ) (at : ℕ) → said ((callOf img (single a) log at) .answer) ≡ refusedWith 0 unsound
   pub close : (log : List ℕ) (at : ℕ) → saidClosing ((closeOf img log at) .answer) ≡ refusedWith (totals 0 0 0) unsound
   pub local : (p : Partition) (log : List ℕ) (at : ℕ) → saidFreeing ((localOf img p log at) .answer) ≡ refusedWith (yield 0 0) unsound
   pub outlist : (p : Partition) → saidListing (listingOf img p) ≡ refusedWith noNames unsound
@@ -63,8 +65,7 @@ unfolding commitOf callBy listingOf readingOf askedOf judgeCommit judgeAct judge
 unsound-refused img e =
     record {
       commit = λ ops n log at. rw e;
-      open-up = λ log at. rw e;
-      trace = λ p log at. rw e;
+      act = λ a log at. rw e;
       close = λ log at. rw e;
       local = λ p log at. rw e;
       outlist = λ p. rw e;
@@ -98,7 +99,7 @@ module _ (img : Image) (log : List ℕ) (at : ℕ) (none : NoRoot img) where
   stopped-by c ne = (ne, refused-leaves img c log at ne)
 
   pub rootless-open : Stopped (single-call Open)
-  rootless-open = stopped-by (single-call Open) (twelfth _ _ 11 _ _ _ (λ z. omega arith) (open-first img log at))
+  rootless-open = stopped-by (single-call Open) (twelfth _ _ 11 _ _ _ (λ z. omega arith) (act-first img Open log at))
 
   pub rootless-close : Stopped (single-call Close)
   rootless-close = stopped-by (single-call Close) (twelfth _ _ 10 _ _ _ (λ z. omega arith) (close-first img log at))

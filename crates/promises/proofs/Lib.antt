@@ -13,3 +13,4 @@ pub mod Once
 pub mod Effects
 pub mod Outlists
 pub mod Counts
+pub mod Sessions

@@ -1,7 +1,7 @@
 -- Demand 3 over calls: on every heap in a phase that calls reached, with recoveries at any moment, at most P + W traces are accepted in the phase; any partition
 -- that is not clean can be traced, and the phase can be closed when all are clean and a root is in use, given log room; tracing the lowest that is not clean,
--- again and again, comes to that within P + W traces; and the close keeps every object that a root leads to and frees every object that no chain leads to, unless a
--- local collection has.
+-- again and again, comes to that within P + W traces; and the close keeps every object that a root or a handle leads to and frees every object that no chain leads to,
+-- unless a local collection has.
 -- Assumes nothing.
 use Prim.Native.Nat.{ℕ, suc, _<_}
 use mathlib.Core.Path.{_≡_, refl, sym, ap, _∙_, subst}

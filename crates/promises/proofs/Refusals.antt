@@ -12,14 +12,14 @@ use lib.ListN.{length, take}
 use lib.Seq.{length-take-le}
 use borrow.Author.Tests.{eqb-true, eqb-false, leb-true, leb-false}
 use Rattle.loops.specs.Loop.{both}
-use Rattle.kinds.specs.Names.{mostOperations, roots}
+use Rattle.kinds.specs.Names.{mostOperations, roots, handles}
 use Rattle.kinds.specs.Answers.{blankRecord, noNames}
 use Rattle.kinds.specs.declared.Name.{Name}
 use Rattle.kinds.specs.declared.Partition.{Partition}
 use Rattle.kinds.specs.declared.Operation.{Operation}
 use Rattle.kinds.specs.declared.Operation.the-variants.{New, Set, Val, Root}
 use Rattle.kinds.specs.declared.Single.{Single}
-use Rattle.kinds.specs.declared.Single.the-variants.{Open, Trace, Close, Local}
+use Rattle.kinds.specs.declared.Single.the-variants.{Open, Trace, Close, Local, Hold, Drop}
 use Rattle.kinds.specs.declared.Record.{Record}
 use Rattle.kinds.specs.declared.Outlist.{Outlist}
 use Rattle.kinds.specs.declared.Refusal.{Refusal}
@@ -27,7 +27,7 @@ use Rattle.kinds.specs.declared.Verdict.{Verdict}
 use Rattle.kinds.specs.declared.Verdict.the-variants.{Accepted, Refused}
 use Rattle.model.specs.Image.{Image, partitions, slots, count, allowance, get, lengthOf, place}
 use Rattle.model.specs.Acts.{Act, commit, single, perform, unmarked, localFreed}
-use Rattle.model.specs.Judge.{check, judgeFormat, judgeOp, judgeOps, lowest, judge, judgeOutlist, judgeName}
+use Rattle.model.specs.Judge.{check, inHeap, judgeFormat, judgeOp, judgeOps, lowest, judge, judgeOutlist, judgeName}
 use Rattle.model.specs.Questions.{readOf, ask}
 use Rattle.model.specs.Outlist.{outlist}
 use Rattle.model.specs.Sound.{isSound}
@@ -37,7 +37,7 @@ use Rattle.catalogue.specs.declared.Answer.the-variants.{Done, Refused as NotDo
 use Rattle.catalogue.specs.declared.Closing.the-variants.{Refused as NotClosed}
 use Rattle.catalogue.specs.declared.Freeing.the-variants.{Refused as NotFreed}
 use Rattle.catalogue.specs.Answers.{Said, accepted, refusedWith, said, Totals, totals, saidClosing, Yield, yield, saidFreeing, saidReading, saidListing, saidAsked}
-use Rattle.catalogue.specs.Call.{perform as perform-call, judgeAct, judgeCommit, judgeForeign, judgeObject, formatOf, callBy, commitOf, openOf, traceOf, closed, closeOf, freed, localOf, listing, listingOf, reading, readingOf, asked, askedOf}
+use Rattle.catalogue.specs.Call.{perform as perform-call, judgeAct, judgeCommit, judgeForeign, judgeObject, formatOf, callBy, callOf, commitOf, closed, closeOf, freed, localOf, listing, listingOf, reading, readingOf, asked, askedOf}
 use Rattle.catalogue.proofs.Perform.{fully}
 use Rattle.promises.specs.Rows.{Row, given, Found, telled, First, Unsound, WrongSize, WrongCount, NoRoom, Lowest, formatRows, operationRows, operationsRows, actRows, callRows, commitRows, outlistRows, objectRows}
 use Rattle.promises.proofs.Conditions.{test-lt, test-le, test-ne, test-both, test-as, test-sound, test-size, test-name, test-target, test-free, test-used, test-target-used, test-open, test-shut, test-rooted, test-unclean, found-lowest, none-lowest, one-lowest, test-led}
@@ -76,9 +76,15 @@ settled-operations P S img e [] = tt
 settled-operations P S img e (o ∷ os) =
     settled-then (operationRows P S img e o) (operationsRows P S (perform S img o) (e + 1) os) (settled-operation P S img e o) (settled-operations P S (perform S img o) (e + 1) os)
 
+-- two tests of one number
+check-both : (a b : Bool) (n e : ℕ) (u : Verdict) → check (both a b) n e u ≡ check a n e (check b n e u)
+unfolding check
+check-both true b n e u = refl
+check-both false b n e u = refl
+
 -- an act's own list
 pub found-act : (img : Image) (a : Act) → Counted a → Found (actRows img a) (judge (get img partitions) (get img slots) img a)
-unfolding judge
+unfolding judge judgeName
 found-act img (commit os) c =
     subst (Found (actRows img (commit os))) (sym (judge-commit (get img partitions) (get img slots) img os (c .0) (c .1))) (found-operations (get img partitions) (get img slots) img 1 os)
 found-act img (single Open) c = found-check _ 11 0 _ _ _ (test-shut img) (found-check _ 12 0 _ _ _ (test-rooted img) found-none)
@@ -92,6 +98,11 @@ found-act img (single Close) c =
     (found-tell _ 14 (lowest (get img partitions) img) _ (Lowest img) _ (λ e. found-lowest img (eqb-false _ _ e)) (λ e. none-lowest img (eqb-true _ _ e))
     (found-check _ 16 0 _ _ _ (test-led img) found-none)))
 found-act img (single (Local p)) c = found-check _ 7 0 _ _ _ (test-lt (p .0) (get img partitions)) (found-check _ 12 0 _ _ _ (test-rooted img) found-none)
+found-act img (single (Hold h n)) c =
+    subst (Found (actRows img (single (Hold h n)))) (check-both (ltb (h .0) handles) (inHeap (get img partitions) (get img slots) n) 7 0 _)
+    (found-check _ 7 0 _ _ _ (test-both _ _ _ _ (test-lt (h .0) handles) (test-name (get img partitions) (get img slots) n))
+    (found-check _ 9 0 _ _ _ (test-used (get img slots) img n) found-none))
+found-act img (single (Drop h)) c = found-check _ 7 0 _ _ _ (test-lt (h .0) handles) found-none
 
 pub settled-act : (img : Image) (a : Act) → Settled (actRows img a)
 settled-act img (commit os) = settled-operations (get img partitions) (get img slots) img 1 os
@@ -99,6 +110,8 @@ settled-act img (single Open) = tt
 settled-act img (single (Trace p)) = tt
 settled-act img (single Close) = (one-lowest img, tt)
 settled-act img (single (Local p)) = tt
+settled-act img (single (Hold h n)) = tt
+settled-act img (single (Drop h)) = tt
 
 -- a logged call: its own list, then 17
 logged-first : {A B : Type 0} (say : B → Said A) (z v : A) (done : ℕ → B) (refused : Refusal → B) (u : Verdict) (bytes : List ℕ) (next img : Image) (log : List ℕ) (at : ℕ) (rows : List Row)
@@ -111,11 +124,6 @@ settled-call : (img : Image) (a : Act) (log : List ℕ) (at : ℕ) → Settled (
 settled-call img a log at = settled-then (actRows img a) _ (settled-act img a) tt
 
 -- 6: of 32 operations the first n
-check-both : (a b : Bool) (n e : ℕ) (u : Verdict) → check (both a b) n e u ≡ check a n e (check b n e u)
-unfolding check
-check-both true b n e u = refl
-check-both false b n e u = refl
-
 test-count : (ops : List Operation) (n : ℕ) → length ops ≡ mostOperations
     → Tests (both (leb n mostOperations) (both (ltb 0 (length (take n ops))) (leb (length (take n ops)) mostOperations))) (WrongCount n)
 test-count ops n full = go (leb n mostOperations) refl
@@ -170,22 +178,14 @@ call-exactly : {A : Type 0} (z v : A) (img : Image) (a : Single) (log : List ℕ
     → First z v (callRows img (single a) log at) s → First z v (callRows img (single a) log at) t → s ≡ t
 call-exactly z v img a log at s t f g = exactly z v (callRows img (single a) log at) (settled-call img (single a) log at) s t f g
 
--- OPEN
-pub open-first : (img : Image) (log : List ℕ) (at : ℕ) → First 0 (length (recordOf (single Open))) (callRows img (single Open) log at) (said ((openOf img log at) .answer))
-open-first img log at = call-first said 0 _ Done NotDone img Open log at refl (λ r. refl)
+-- OPEN, TRACE, HOLD and DROP, which answer their record's length alone: each is `callOf` of its act (catalogue/specs/Call.antt)
+pub act-first : (img : Image) (a : Single) (log : List ℕ) (at : ℕ)
+    → First 0 (length (recordOf (single a))) (callRows img (single a) log at) (said ((callOf img (single a) log at) .answer))
+act-first img a log at = call-first said 0 _ Done NotDone img a log at refl (λ r. refl)
 
-pub open-exactly : (img : Image) (log : List ℕ) (at : ℕ) (s : Said ℕ) → First 0 (length (recordOf (single Open))) (callRows img (single Open) log at) s
-    → s ≡ said ((openOf img log at) .answer)
-open-exactly img log at s f = call-exactly 0 _ img Open log at s _ f (open-first img log at)
-
--- TRACE
-pub trace-first : (img : Image) (p : Partition) (log : List ℕ) (at : ℕ)
-    → First 0 (length (recordOf (single (Trace p)))) (callRows img (single (Trace p)) log at) (said ((traceOf img p log at) .answer))
-trace-first img p log at = call-first said 0 _ Done NotDone img (Trace p) log at refl (λ r. refl)
-
-pub trace-exactly : (img : Image) (p : Partition) (log : List ℕ) (at : ℕ) (s : Said ℕ) → First 0 (length (recordOf (single (Trace p)))) (callRows img (single (Trace p)) log at) s
-    → s ≡ said ((traceOf img p log at) .answer)
-trace-exactly img p log at s f = call-exactly 0 _ img (Trace p) log at s _ f (trace-first img p log at)
+pub act-exactly : (img : Image) (a : Single) (log : List ℕ) (at : ℕ) (s : Said ℕ) → First 0 (length (recordOf (single a))) (callRows img (single a) log at) s
+    → s ≡ said ((callOf img (single a) log at) .answer)
+act-exactly img a log at s f = call-exactly 0 _ img a log at s _ f (act-first img a log at)
 
 -- CLOSE, which answers the count and the number freed
 pub close-first : (img : Image) (log : List ℕ) (at : ℕ)

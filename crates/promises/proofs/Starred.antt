@@ -1,4 +1,4 @@
--- The starred numbers, in a single table covered by one proof: it computes. Two partitions of four slots.
+-- The starred numbers, in a single table covered by one proof: it computes; and rows of our own in a second. Two partitions of four slots.
 -- Assumes nothing.
 use Prim.Native.Nat.{ℕ, _+_, _-_, _≤_, _<_}
 use native.Mathlib.Omega.{arith}
@@ -12,10 +12,12 @@ use Rattle.loops.specs.Cases.{case, from-to, Agree}
 use Rattle.loops.specs.Loop.{both, every}
 use Rattle.loops.proofs.Tests.{both-true}
 use Rattle.loops.proofs.Loops.{every-true}
-use Rattle.kinds.specs.Names.{partition, named, wordOf}
+use Rattle.kinds.specs.Names.{partition, named, session as handle-of, wordOf}
 use Rattle.kinds.specs.Operations.{new, set-to, root-to, unroot, three}
+use Rattle.kinds.specs.declared.Name.{Name}
+use Rattle.kinds.specs.declared.Handle.{Handle}
 use Rattle.kinds.specs.declared.Target.the-variants.{Object}
-use Rattle.kinds.specs.declared.Single.the-variants.{Close, Local}
+use Rattle.kinds.specs.declared.Single.the-variants.{Close, Local, Hold, Drop}
 use Rattle.kinds.specs.declared.Verdict.{Verdict}
 use Rattle.kinds.specs.declared.Verdict.the-variants.{Accepted, Refused}
 use Rattle.lines.proofs.Computing.{reading, printing}
@@ -23,15 +25,17 @@ use Rattle.model.proofs.Computing.{imaging, looping, acting, judging, sounding,
 use Rattle.lines.specs.declared.line.Line.the-variants.{Operation, Single}
 use Rattle.lines.specs.Print.{print}
 use Rattle.model.specs.Image.{Image, state, addr, lengthOf, size, blank, place}
-use Rattle.model.specs.Acts.{single, perform}
+use Rattle.model.specs.Acts.{Act, single, perform}
 use Rattle.model.specs.Outlist.{outlist}
+use Rattle.model.specs.Sessions.{Retains}
 use Rattle.writer.specs.Record.{rule, opLines, recordOf, headingOf}
 use Rattle.writer.specs.Write.{splice}
 use Rattle.journal.specs.Recover.{act, headed, feed, feedAll, Recovered, refusal, recovery, answer, recoverOf}
 use Rattle.catalogue.specs.Call as call
 use Rattle.catalogue.specs.Call.{judgeAct, judgeCommit, judgeForeign, formatOf, callBy, commitOf, listingOf}
-use Rattle.promises.specs.Calls.{Call}
-use Rattle.promises.specs.Paper.{paperLog, threeObjects, done, opened, freed, closed, refused, session, committing, opening, closing, tracing, localizing}
+use Rattle.promises.specs.Calls.{Call, actOf, calling}
+use Rattle.promises.specs.Sessions.{HeldSince, held, called}
+use Rattle.promises.specs.Paper.{paperLog, threeHolding, threeObjects, done, opened, freed, closed, refused, Session, next, continued, session, committing, opening, closing, tracing, localizing, holding, dropping}
 
 -- What computes here, by subject (see model/proofs/Computing.antt)
 logging : Unit {0}
@@ -84,22 +88,25 @@ gives-it n y r e =
     let s = same-words (r .image) y (b .1) in
     λ i. record { verdict = v i; kept = k i; image = s i }
 
--- every cut from 11 to 88 bytes, under a heading of either edition, computed
-cuts : every 2 (λ e. every 78 (λ i. gives 11 (blank 2 4) (recoverOf (take (11 + i) (paperLog (e + 1))) 93))) ≡ true
+-- every cut from 11 to 88 bytes, under a heading of each edition, computed
+cuts : every 3 (λ e. every 78 (λ i. gives 11 (blank 2 4) (recoverOf (take (11 + i) (paperLog (e + 1))) 125))) ≡ true
 unfolding sameWords isAccepted gives reading imaging looping acting judging recovering
 cuts = refl
 
-cut-at : (e : ℕ) → e < 2 → (k : ℕ) → 11 ≤ k → k ≤ 88 → recoverOf (take k (paperLog (e + 1))) 93 ≡ recovery 11 (blank 2 4)
+cut-at : (e : ℕ) → e < 3 → (k : ℕ) → 11 ≤ k → k ≤ 88 → recoverOf (take k (paperLog (e + 1))) 125 ≡ recovery 11 (blank 2 4)
 cut-at e l k lo hi =
-    let c = every-true 2 (λ e. every 78 (λ i. gives 11 (blank 2 4) (recoverOf (take (11 + i) (paperLog (e + 1))) 93))) cuts e l in
+    let c = every-true 3 (λ e. every 78 (λ i. gives 11 (blank 2 4) (recoverOf (take (11 + i) (paperLog (e + 1))) 125))) cuts e l in
     let q : 11 + (k - 11) ≡ k = omega arith in
-    gives-it 11 (blank 2 4) _ (rw q at (every-true 78 (λ i. gives 11 (blank 2 4) (recoverOf (take (11 + i) (paperLog (e + 1))) 93)) c (k - 11) (omega arith)))
+    gives-it 11 (blank 2 4) _ (rw q at (every-true 78 (λ i. gives 11 (blank 2 4) (recoverOf (take (11 + i) (paperLog (e + 1))) 125)) c (k - 11) (omega arith)))
 
-c1 : (k : ℕ) → 11 ≤ k → k ≤ 88 → recoverOf (take k (paperLog 1)) 93 ≡ recovery 11 (blank 2 4)
+c1 : (k : ℕ) → 11 ≤ k → k ≤ 88 → recoverOf (take k (paperLog 1)) 125 ≡ recovery 11 (blank 2 4)
 c1 = cut-at 0 (omega arith)
 
-c2 : (k : ℕ) → 11 ≤ k → k ≤ 88 → recoverOf (take k (paperLog 2)) 93 ≡ recovery 11 (blank 2 4)
+c2 : (k : ℕ) → 11 ≤ k → k ≤ 88 → recoverOf (take k (paperLog 2)) 125 ≡ recovery 11 (blank 2 4)
 c2 = cut-at 1 (omega arith)
+
+c3 : (k : ℕ) → 11 ≤ k → k ≤ 88 → recoverOf (take k (paperLog 3)) 125 ≡ recovery 11 (blank 2 4)
+c3 = cut-at 2 (omega arith)
 
 -- a phase of four traces
 abbrev four-traces : List Call
@@ -119,9 +126,22 @@ garbage =
     committing
     (new 0 0 1 ∷ new 0 1 2 ∷ new 0 2 3 ∷ new 0 3 4 ∷ new 1 0 5 ∷ root-to 0 0 0 ∷ set-to 0 1 0 0 2 ∷ set-to 0 2 0 0 1 ∷ set-to 1 0 0 0 3 ∷ [])
 
+-- two restore points, (0,0) under root 0 and (1,0) under root 1, which refers to (0,1); a session holds the second, and its root expires
+abbrev browsing : List Call
+browsing =
+    committing (new 0 0 1 ∷ new 1 0 2 ∷ new 0 1 3 ∷ set-to 1 0 0 0 1 ∷ root-to 0 0 0 ∷ root-to 1 1 0 ∷ []) ∷ holding 31 1 0 ∷ committing (unroot 1 ∷ []) ∷ []
+
+-- a phase of three traces, and a local collection of each partition
+abbrev collecting : List Call
+collecting = opening ∷ tracing 0 ∷ tracing 1 ∷ tracing 0 ∷ closing ∷ localizing 1 ∷ localizing 0 ∷ []
+
 -- the log of a formatting, and a later heading of edition e
 abbrev headings : ℕ → List ℕ
-headings e = headingOf (rule 2 2 4) ++ headingOf (rule e 2 4)
+headings e = headingOf (rule 3 2 4) ++ headingOf (rule e 2 4)
+
+-- the line of a hold
+abbrev hold-line : List ℕ
+hold-line = recordOf (single (Hold (handle-of 31) (named 0 1)))
 
 -- a line of 21 bytes: `new` 4294967295 4294 0
 abbrev overlong : List ℕ
@@ -130,11 +150,11 @@ overlong = print (Operation (new 4294967295 4294 0))
 -- THE STARRED NUMBERS. The first reply of a session is its formatting's.
 pub table :
     Agree
-    -- P = 2, S = 4: 93 words; object (1,0) begins at 65, its name is 65
-    (case (size 2 4) 93 ∷ case (lengthOf (session [] .image)) 93 ∷
-    case (addr (state (place 4 (named 1 0)))) 65 ∷ case (wordOf (Object (named 1 0))) 65 ∷
+    -- P = 2, S = 4: 125 words; object (1,0) begins at 97, its name is 65
+    (case (size 2 4) 125 ∷ case (lengthOf (session [] .image)) 125 ∷
+    case (addr (state (place 4 (named 1 0)))) 97 ∷ case (wordOf (Object (named 1 0))) 65 ∷
     -- the paper's log, which these calls write, the bytes after it left as they were: allowance 4, count 4, 0 freed
-    case (session (committing three ∷ four-traces) .log) (paperLog 2 ++ replicate 68 255) ∷
+    case (session (committing three ∷ four-traces) .log) (paperLog 3 ++ replicate 68 255) ∷
     case (session (committing three ∷ four-traces) .replies) (done ∷ done ∷ opened 4 ∷ done ∷ done ∷ done ∷ done ∷ closed 4 0 ∷ []) ∷
     -- with an unreferenced (1,1): allowance 5, 1 freed
     case (session (committing (three ++ (new 1 1 40 ∷ [])) ∷ four-traces) .replies)
@@ -154,8 +174,29 @@ pub table :
     case (session (opening ∷ []) .replies) (done ∷ refused 12 0 ∷ []) ∷
     -- trace twice running: 13
     case (session (committing three ∷ opening ∷ tracing 0 ∷ tracing 0 ∷ []) .replies) (done ∷ done ∷ opened 4 ∷ done ∷ refused 13 0 ∷ []) ∷
-    -- our own: a local collection frees a cycle inside its partition and keeps what only an unreferenced object of another names, which goes after that one
-    case (session (garbage ∷ localizing 0 ∷ localizing 1 ∷ localizing 0 ∷ []) .replies) (done ∷ done ∷ freed 2 ∷ freed 1 ∷ freed 1 ∷ []) ∷
+    -- the paper's log, of each edition, cut at 10 bytes: 3 and line 1, zeros
+    case (recoverOf (take 10 (paperLog 1)) 125) (refusal 125 3 1) ∷ case (recoverOf (take 10 (paperLog 2)) 125) (refusal 125 3 1) ∷
+    case (recoverOf (take 10 (paperLog 3)) 125) (refusal 125 3 1) ∷
+    -- at 11 to 88: empty heap, kept 11
+    from-to 11 88 (λ k. recoverOf (take k (paperLog 1)) 125) (recovery 11 (blank 2 4)) ∷
+    from-to 11 88 (λ k. recoverOf (take k (paperLog 2)) 125) (recovery 11 (blank 2 4)) ∷
+    from-to 11 88 (λ k. recoverOf (take k (paperLog 3)) 125) (recovery 11 (blank 2 4)) ∷
+    -- at 89: three objects, kept 89
+    case (recoverOf (take 89 (paperLog 1)) 125) (recovery 89 threeObjects) ∷ case (recoverOf (take 89 (paperLog 2)) 125) (recovery 89 threeObjects) ∷
+    case (recoverOf (take 89 (paperLog 3)) 125) (recovery 89 threeObjects) ∷
+    -- whole: kept 132, the three objects again
+    case (recoverOf (paperLog 1) 125) (recovery 132 threeObjects) ∷ case (recoverOf (paperLog 2) 125) (recovery 132 threeObjects) ∷
+    case (recoverOf (paperLog 3) 125) (recovery 132 threeObjects) ∷
+    [])
+unfolding reading printing logging imaging looping acting judging recovering sounding listing performing
+table =
+    (refl, (refl, (refl, (refl, (refl, (refl, (refl, (refl, (refl, (refl, (refl, (refl, (refl, (refl, (refl, (refl, (c1, (c2, (c3, (refl, (refl, (refl, (refl, (refl, (refl, tt)))))))))))))))))))))))))
+
+-- OUR OWN, beside them
+pub own-table :
+    Agree
+    -- a local collection frees a cycle inside its partition and keeps what only an unreferenced object of another names, which goes after that one
+    (case (session (garbage ∷ localizing 0 ∷ localizing 1 ∷ localizing 0 ∷ []) .replies) (done ∷ done ∷ freed 2 ∷ freed 1 ∷ freed 1 ∷ []) ∷
     -- and in a phase: allowance 6, 2 freed; the close frees the other 2
     case (session (garbage ∷ opening ∷ localizing 0 ∷ tracing 0 ∷ tracing 1 ∷ closing ∷ []) .replies)
     (done ∷ done ∷ opened 6 ∷ freed 2 ∷ done ∷ done ∷ closed 2 2 ∷ []) ∷
@@ -163,31 +204,58 @@ pub table :
     case (session (localizing 0 ∷ localizing 2 ∷ []) .replies) (done ∷ refused 12 0 ∷ refused 7 0 ∷ []) ∷
     -- the outlist of partition 1 is the name of (0,3)
     case ((listingOf (session (garbage ∷ []) .image) (partition 1)) .outlist) (record { number = 1; names = 4 ∷ replicate 255 0 }) ∷
+    -- what a session holds is kept through a phase and by local collections though its root expired, with what it refers to; a drop frees nothing; then
+    -- the collections free both
+    case (session (browsing ++ (collecting ++ (dropping 31 ∷ localizing 1 ∷ localizing 0 ∷ []))) .replies)
+    (done ∷ done ∷ done ∷ done ∷ opened 3 ∷ done ∷ done ∷ done ∷ closed 3 0 ∷ freed 0 ∷ freed 0 ∷ done ∷ freed 1 ∷ freed 1 ∷ []) ∷
+    -- or the next close does
+    case (session (browsing ++ (dropping 31 ∷ opening ∷ tracing 0 ∷ tracing 1 ∷ closing ∷ [])) .replies)
+    (done ∷ done ∷ done ∷ done ∷ done ∷ opened 4 ∷ done ∷ done ∷ closed 2 2 ∷ []) ∷
+    -- held after both partitions were traced, (1,0) is marked: close answers 14 and 1, and then keeps it; dropped before the close, it is still marked
+    case (session (committing (new 0 0 1 ∷ new 1 0 2 ∷ root-to 0 0 0 ∷ []) ∷ opening ∷ tracing 0 ∷ tracing 1 ∷ holding 0 1 0 ∷ closing ∷ tracing 1 ∷ dropping 0 ∷ closing ∷ []) .replies)
+    (done ∷ done ∷ opened 3 ∷ done ∷ done ∷ done ∷ refused 14 1 ∷ done ∷ done ∷ closed 3 0 ∷ []) ∷
+    -- with a handle in use and no root: 12
+    case (session (committing (new 0 0 1 ∷ []) ∷ holding 0 0 0 ∷ opening ∷ localizing 0 ∷ []) .replies) (done ∷ done ∷ done ∷ refused 12 0 ∷ refused 12 0 ∷ []) ∷
+    -- handle 32, partition 2 and slot 4: 7; an object not in use: 9; of drop, handle 32: 7; a drop of an empty handle and a hold on a used one pass
+    case (session (holding 32 0 0 ∷ holding 0 2 0 ∷ holding 0 0 4 ∷ holding 0 0 0 ∷ dropping 32 ∷ dropping 0 ∷ []) .replies)
+    (done ∷ refused 7 0 ∷ refused 7 0 ∷ refused 7 0 ∷ refused 9 0 ∷ refused 7 0 ∷ done ∷ []) ∷
+    case (session (committing three ∷ holding 0 1 0 ∷ holding 0 0 1 ∷ []) .replies) (done ∷ done ∷ done ∷ done ∷ []) ∷
     -- a later heading is 5 where its edition exists, else 4, and 3 as the first line
-    case (recoverOf (headings 1) 93) (refusal 93 5 2) ∷ case (recoverOf (headings 2) 93) (refusal 93 5 2) ∷
-    case (recoverOf (headings 3) 93) (refusal 93 4 2) ∷ case (recoverOf (headingOf (rule 3 2 4)) 93) (refusal 93 3 1) ∷
-    -- a local line within a transaction: 5; else it is good under a heading of either edition
-    case (recoverOf (headingOf (rule 2 2 4) ++ (opLines (new 0 0 1 ∷ []) ++ recordOf (single (Local (partition 0))))) 93) (refusal 93 5 3) ∷
-    case (recoverOf (paperLog 1 ++ recordOf (single (Local (partition 0)))) 93) (recovery 140 threeObjects) ∷
-    case (recoverOf (paperLog 2 ++ recordOf (single (Local (partition 0)))) 93) (recovery 140 threeObjects) ∷
-    -- a tail under a heading of either edition: a whole line without its end, and what a line of 20 bytes begins with, are dropped; a digit more, other text, and
+    case (recoverOf (headings 1) 125) (refusal 125 5 2) ∷ case (recoverOf (headings 2) 125) (refusal 125 5 2) ∷ case (recoverOf (headings 3) 125) (refusal 125 5 2) ∷
+    case (recoverOf (headings 4) 125) (refusal 125 4 2) ∷ case (recoverOf (headingOf (rule 4 2 4)) 125) (refusal 125 3 1) ∷
+    -- a local line and a hold line within a transaction: 5; else they are good under a heading of each edition, and the handle holds what was logged
+    case (recoverOf (headingOf (rule 3 2 4) ++ (opLines (new 0 0 1 ∷ []) ++ recordOf (single (Local (partition 0))))) 125) (refusal 125 5 3) ∷
+    case (recoverOf (headingOf (rule 3 2 4) ++ (opLines (new 0 1 1 ∷ []) ++ hold-line)) 125) (refusal 125 5 3) ∷
+    case (recoverOf (paperLog 1 ++ (recordOf (single (Local (partition 0))) ++ hold-line)) 125) (recovery 152 (threeHolding 2)) ∷
+    case (recoverOf (paperLog 2 ++ (recordOf (single (Local (partition 0))) ++ hold-line)) 125) (recovery 152 (threeHolding 2)) ∷
+    case (recoverOf (paperLog 3 ++ (recordOf (single (Local (partition 0))) ++ hold-line)) 125) (recovery 152 (threeHolding 2)) ∷
+    case (recoverOf (paperLog 3 ++ (hold-line ++ recordOf (single (Drop (handle-of 31))))) 125) (recovery 152 threeObjects) ∷
+    -- a tail under a heading of each edition: a whole line without its end, and what a line of 20 bytes begins with, are dropped; a digit more, other text, and
     -- the beginning of a heading are 4
-    case (recoverOf (headingOf (rule 1 2 4) ++ print (Single Close)) 93) (recovery 11 (blank 2 4)) ∷
-    case (recoverOf (headingOf (rule 2 2 4) ++ take 18 overlong) 93) (recovery 11 (blank 2 4)) ∷
-    case (recoverOf (headingOf (rule 2 2 4) ++ take 19 overlong) 93) (refusal 93 4 2) ∷
-    case (recoverOf (paperLog 1 ++ replicate 20 120) 93) (refusal 93 4 15) ∷
-    case (recoverOf (paperLog 2 ++ take 2 (paperLog 2)) 93) (refusal 93 4 15) ∷
-    -- the paper's log, of edition 1 and of 2, cut at 10 bytes: 3 and line 1, zeros
-    case (recoverOf (take 10 (paperLog 1)) 93) (refusal 93 3 1) ∷ case (recoverOf (take 10 (paperLog 2)) 93) (refusal 93 3 1) ∷
-    -- at 11 to 88: empty heap, kept 11
-    from-to 11 88 (λ k. recoverOf (take k (paperLog 1)) 93) (recovery 11 (blank 2 4)) ∷
-    from-to 11 88 (λ k. recoverOf (take k (paperLog 2)) 93) (recovery 11 (blank 2 4)) ∷
-    -- at 89: three objects, kept 89
-    case (recoverOf (take 89 (paperLog 1)) 93) (recovery 89 threeObjects) ∷
-    case (recoverOf (take 89 (paperLog 2)) 93) (recovery 89 threeObjects) ∷
-    -- whole: kept 132, the three objects again
-    case (recoverOf (paperLog 1) 93) (recovery 132 threeObjects) ∷ case (recoverOf (paperLog 2) 93) (recovery 132 threeObjects) ∷
+    case (recoverOf (headingOf (rule 1 2 4) ++ print (Single Close)) 125) (recovery 11 (blank 2 4)) ∷
+    case (recoverOf (headingOf (rule 3 2 4) ++ take 18 overlong) 125) (recovery 11 (blank 2 4)) ∷
+    case (recoverOf (headingOf (rule 3 2 4) ++ take 19 overlong) 125) (refusal 125 4 2) ∷
+    case (recoverOf (paperLog 2 ++ replicate 20 120) 125) (refusal 125 4 15) ∷
+    case (recoverOf (paperLog 3 ++ take 2 (paperLog 3)) 125) (refusal 125 4 15) ∷
     [])
 unfolding reading printing logging imaging looping acting judging recovering sounding listing performing
-table =
-    (refl, (refl, (refl, (refl, (refl, (refl, (refl, (refl, (refl, (refl, (refl, (refl, (refl, (refl, (refl, (refl, (refl, (refl, (refl, (refl, (refl, (refl, (refl, (refl, (refl, (refl, (refl, (refl, (refl, (refl, (refl, (c1, (c2, (refl, (refl, (refl, (refl, tt)))))))))))))))))))))))))))))))))))))
+own-table =
+    (refl, (refl, (refl, (refl, (refl, (refl, (refl, (refl, (refl, (refl, (refl, (refl, (refl, (refl, (refl, (refl, (refl, (refl, (refl, (refl, (refl, (refl, (refl, (refl, (refl, (refl, tt))))))))))))))))))))))))))
+
+-- a session of a table goes on with calls that are accepted and retain what a handle holds
+abbrev Passes : Handle → Name → Session → List Call → Type 0
+Passes h n s [] = Unit {0}
+Passes h n s (c ∷ cs) = Retains h n (actOf c) × ((calling (s .image) c (s .log) (s .end)) .number ≡ 0) × Passes h n (next s c) cs
+
+passes : {h : Handle} {n : Name} {x : Image} {acts : List Act} (s : Session) (cs : List Call) → HeldSince h n x acts (s .image) → Passes h n s cs
+    → (since : List Act) × HeldSince h n x since ((continued s cs) .image)
+passes s [] r p = (_, r)
+passes s (c ∷ cs) r p = passes (next s c) cs (called r c (p .0) (s .log) (s .end) (p .1)) (p .2)
+
+-- WHAT THE PROMISE ON SESSIONS SUPPOSES IS MET: the session that holds (1,0) goes on, its root expired, through a phase and local collections
+pub browsed : (since : List Act) × HeldSince (handle-of 31) (named 1 0) (session (take 1 browsing) .image) since (session (browsing ++ collecting) .image)
+unfolding printing logging imaging looping acting judging sounding performing
+browsed =
+    let s : Session = session (take 1 browsing) in
+    passes (next s (holding 31 1 0)) (committing (unroot 1 ∷ []) ∷ collecting) (held (s .log) (s .end) refl)
+    (tt, refl, (tt, refl, (tt, refl, (tt, refl, (tt, refl, (tt, refl, (tt, refl, (tt, refl, tt))))))))

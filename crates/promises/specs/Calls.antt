@@ -4,7 +4,7 @@ use mathlib.Core.List.{List}
 use lib.ListN.{take}
 use Rattle.kinds.specs.declared.Operation.{Operation}
 use Rattle.kinds.specs.declared.Single.{Single}
-use Rattle.kinds.specs.declared.Single.the-variants.{Open, Trace, Close, Local}
+use Rattle.kinds.specs.declared.Single.the-variants.{Open, Trace, Close, Local, Hold, Drop}
 use Rattle.model.specs.Image.{Image}
 use Rattle.model.specs.Acts.{Act, commit, single}
 use Rattle.writer.specs.Record.{opsOf}
@@ -13,7 +13,7 @@ use Rattle.catalogue.specs.declared.Answer.{Answer}
 use Rattle.catalogue.specs.declared.Closing.{Closing}
 use Rattle.catalogue.specs.declared.Freeing.{Freeing}
 use Rattle.catalogue.specs.Answers.{Said, said, saidClosing, saidFreeing}
-use Rattle.catalogue.specs.Call.{Outcome, formatOf, commitOf, openOf, traceOf, closeOf, localOf}
+use Rattle.catalogue.specs.Call.{Outcome, formatOf, commitOf, openOf, traceOf, closeOf, localOf, holdOf, dropOf}
 
 -- a call on a heap, with its arguments: a commit, of whose 32 operations the first n count, or an act whose record is a single line
 pub data Call : Type 0 where
@@ -59,3 +59,5 @@ calling img (single-call Open) log at = answered (openOf img log at)
 calling img (single-call (Trace p)) log at = answered (traceOf img p log at)
 calling img (single-call Close) log at = closed-up (closeOf img log at)
 calling img (single-call (Local p)) log at = freed-up (localOf img p log at)
+calling img (single-call (Hold h n)) log at = answered (holdOf img h n log at)
+calling img (single-call (Drop h)) log at = answered (dropOf img h log at)

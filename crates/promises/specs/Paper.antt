@@ -4,13 +4,13 @@ use mathlib.Core.Bool.{cond}
 use mathlib.Core.List.{List, [], _∷_, _++_}
 use lib.Dec.{eqb}
 use lib.ListN.{length, take, replicate}
-use Rattle.kinds.specs.Names.{mostOperations, partition}
+use Rattle.kinds.specs.Names.{mostOperations, partition, named, session as handle-of}
 use Rattle.kinds.specs.Operations.{unroot}
 use Rattle.kinds.specs.declared.Operation.{Operation}
-use Rattle.kinds.specs.declared.Single.the-variants.{Open, Trace, Close, Local}
+use Rattle.kinds.specs.declared.Single.the-variants.{Open, Trace, Close, Local, Hold, Drop}
 use Rattle.model.specs.Image.{Image, allowance, get}
 use Rattle.catalogue.specs.Answers.{Said, said, saidClosing, saidFreeing}
-use Rattle.catalogue.specs.Call.{formatOf, commitOf, openOf, traceOf, closeOf, localOf}
+use Rattle.catalogue.specs.Call.{formatOf, commitOf, openOf, traceOf, closeOf, localOf, holdOf, dropOf}
 use Rattle.promises.specs.Calls.{Call, commit-call, single-call, Made, formatting, calling}
 
 -- the log of the paper's example, byte by byte, under a heading of edition e
@@ -46,15 +46,17 @@ paperLog e =
     99 ∷ 108 ∷ 111 ∷ 115 ∷ 101 ∷ 10 ∷
     []
 
--- three objects in a chain from root 0, the phase shut; the last two are named from another partition
-abbrev pub threeObjects : List ℕ
-threeObjects =
+-- three objects in a chain from root 0, the phase shut; the last two are named from another partition; handle 31 holds the word w
+abbrev pub threeHolding : ℕ → List ℕ
+threeHolding w =
     -- P, S, phase, count, allowance
     2 ∷ 4 ∷ 0 ∷ 0 ∷ 0 ∷
     -- roots
     1 ∷ 0 ∷ 0 ∷ 0 ∷ 0 ∷ 0 ∷ 0 ∷ 0 ∷ 0 ∷ 0 ∷ 0 ∷ 0 ∷ 0 ∷ 0 ∷ 0 ∷ 0 ∷
     -- flags
     0 ∷ 0 ∷ 0 ∷ 0 ∷ 0 ∷ 0 ∷ 0 ∷ 0 ∷ 0 ∷ 0 ∷ 0 ∷ 0 ∷ 0 ∷ 0 ∷ 0 ∷ 0 ∷
+    -- handles
+    0 ∷ 0 ∷ 0 ∷ 0 ∷ 0 ∷ 0 ∷ 0 ∷ 0 ∷ 0 ∷ 0 ∷ 0 ∷ 0 ∷ 0 ∷ 0 ∷ 0 ∷ 0 ∷ 0 ∷ 0 ∷ 0 ∷ 0 ∷ 0 ∷ 0 ∷ 0 ∷ 0 ∷ 0 ∷ 0 ∷ 0 ∷ 0 ∷ 0 ∷ 0 ∷ 0 ∷ w ∷
     -- slot 0 of partition 0
     1 ∷ 10 ∷ 65 ∷ 0 ∷ 0 ∷ 0 ∷ 0 ∷
     -- slot 1 of partition 0
@@ -72,6 +74,9 @@ threeObjects =
     -- slot 3 of partition 1
     0 ∷ 0 ∷ 0 ∷ 0 ∷ 0 ∷ 0 ∷ 0 ∷
     []
+
+abbrev pub threeObjects : List ℕ
+threeObjects = threeHolding 0
 
 -- what a call answers, in a table: done; an open with the allowance; a close with the traces counted and the number freed; a local with the number freed; or
 -- refused, with the number and the extra answer
@@ -96,6 +101,8 @@ replied img (single-call Close) log at =
 replied img (single-call (Local p)) log at =
     let s = saidFreeing ((localOf img p log at) .answer) in
     reply s (freed (s .value .freed))
+replied img (single-call (Hold h n)) log at = reply (said ((holdOf img h n log at) .answer)) done
+replied img (single-call (Drop h)) log at = reply (said ((dropOf img h log at) .answer)) done
 
 -- after some calls: what each replied, the image, the log buffer, and the byte where the last record ends
 pub record Session : Type 0 where
@@ -110,7 +117,7 @@ after earlier r m at = record { replies = earlier ++ (r ∷ []); image = m .imag
 -- two partitions of four slots are formatted, over words and bytes that are no zeros
 abbrev pub begun : Session
 begun =
-    let img : Image = replicate 93 7 in
+    let img : Image = replicate 125 7 in
     let log : List ℕ = replicate 200 255 in
     after [] (reply (said ((formatOf img 2 4 log 0) .answer)) done) (formatting img 2 4 log 0) 0
 
@@ -118,7 +125,7 @@ begun =
 abbrev pub next : Session → Call → Session
 next s c = after (s .replies) (replied (s .image) c (s .log) (s .end)) (calling (s .image) c (s .log) (s .end)) (s .end)
 
-abbrev continued : Session → List Call → Session
+abbrev pub continued : Session → List Call → Session
 continued s [] = s
 continued s (c ∷ cs) = continued (next s c) cs
 
@@ -126,7 +133,7 @@ continued s (c ∷ cs) = continued (next s c) cs
 abbrev pub session : List Call → Session
 session cs = continued begun cs
 
--- a commit of some operations, the first of 32; the opening and the closing of a phase; a trace and a local collection of a partition
+-- a commit of some operations, the first of 32; the opening and the closing of a phase; a trace and a local collection of a partition; a hold and a drop
 abbrev pub committing : List Operation → Call
 committing os = commit-call (take mostOperations (os ++ replicate mostOperations (unroot 0))) (length os)
 
@@ -141,3 +148,9 @@ tracing p = single-call (Trace (partition p))
 
 abbrev pub localizing : ℕ → Call
 localizing p = single-call (Local (partition p))
+
+abbrev pub holding : ℕ → ℕ → ℕ → Call
+holding h p s = single-call (Hold (handle-of h) (named p s))
+
+abbrev pub dropping : ℕ → Call
+dropping h = single-call (Drop (handle-of h))

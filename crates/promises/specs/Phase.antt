@@ -1,4 +1,5 @@
--- Demand 3: a phase, on every heap that calls reached, however commits, traces, local collections and recoveries are mixed.
+-- Demand 3: a phase, on every heap that calls reached, however commits, traces, local collections, holds, drops and recoveries are
+-- mixed.
 use Prim.Native.Nat.{ℕ, _+_, _*_, _≤_, _<_}
 use mathlib.Core.Bool.{true}
 use mathlib.Core.List.{List, [], _∷_, _++_}
@@ -10,7 +11,7 @@ use Rattle.kinds.specs.declared.Single.the-variants.{Open, Trace, Close}
 use Rattle.model.specs.Image.{Image, flag, state, partitions, slots, count, get}
 use Rattle.model.specs.Acts.{Act, single, unmarked}
 use Rattle.model.specs.Chains.{Leads, Stays, ChainToBorn, ChainTo, birthNow}
-use Rattle.model.specs.History.{traces, Unclosed, unrooted}
+use Rattle.model.specs.History.{traces, Unclosed, unanchored}
 use Rattle.model.specs.Sound.{isSound}
 use Rattle.writer.specs.Record.{Rule, recordOf}
 use Rattle.journal.specs.Log.{replay}
@@ -51,9 +52,9 @@ pub record Ends (n : ℕ) (y : Image) : Type 0 where
   pub few : get y count + length order ≤ n
   pub closable : (NoRoot y → ⊥) → Closable heap
 
--- P + W, W being the objects in use that no root names at the opening, which comes after the acts `earlier`
+-- P + W, W being the objects in use that neither a root nor a handle names at the opening, which comes after the acts `earlier`
 abbrev pub most : Rule → List Act → ℕ
-most h earlier = h .P + unrooted (h .P) (h .S) (replay h earlier)
+most h earlier = h .P + unanchored (h .P) (h .S) (replay h earlier)
 
 -- of what an accepted close leaves
 abbrev AfterClose : Image → (Image → Type 0) → Type 0
@@ -80,7 +81,8 @@ pub record Demand-3-calls (h : Rule) (acts : List Act) (y : Image) : Type 0 wher
   pub progress : Ends (most h earlier) y
   -- no call answers 15 or 16
   pub never : (c : Call) (log : List ℕ) (at : ℕ) → ((calling y c log at) .number ≢ 15) × ((calling y c log at) .number ≢ 16)
-  -- the close keeps every object that a root leads to, and frees every object that no chain leads to
+  -- the close keeps every object that a root or a handle leads to, and frees every object that no chain leads to: one starts at what a root or a handle
+  -- named at the opening, or at an object created since or stored as a reference since, by set, root or hold
   pub keeps : AfterClose y (λ z. (j : ℕ) → Leads (h .S) y j → Stays y z j)
   pub frees : AfterClose y (λ z. (j : ℕ) → j < h .P * h .S → (ChainTo (h .S) earlier (replay h earlier) since j → ⊥) → get z (state j) ≡ 0)
   -- and so over objects, by place and birth: one that no chain leads to is gone after the close, whether the close or a local collection freed it

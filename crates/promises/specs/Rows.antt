@@ -4,17 +4,17 @@ use mathlib.Core.List.{List, [], _∷_, _++_}
 use mathlib.Core.Path.{_≡_}
 use mathlib.Core.Logic.{_≢_, _⊎_}
 use lib.ListN.{length, take}
-use Rattle.kinds.specs.Names.{mostPartitions, mostSlots, mostOperations, roots, fields}
+use Rattle.kinds.specs.Names.{mostPartitions, mostSlots, mostOperations, roots, handles, fields}
 use Rattle.kinds.specs.Answers.{refuse}
 use Rattle.kinds.specs.declared.Name.{Name}
 use Rattle.kinds.specs.declared.Target.{Target}
 use Rattle.kinds.specs.declared.Target.the-variants.{Nothing, Object}
 use Rattle.kinds.specs.declared.Operation.{Operation}
 use Rattle.kinds.specs.declared.Operation.the-variants.{New, Set, Val, Root}
-use Rattle.kinds.specs.declared.Single.the-variants.{Open, Trace, Close, Local}
+use Rattle.kinds.specs.declared.Single.the-variants.{Open, Trace, Close, Local, Hold, Drop}
 use Rattle.kinds.specs.declared.Verdict.{Verdict}
 use Rattle.kinds.specs.declared.Verdict.the-variants.{Accepted, Refused}
-use Rattle.model.specs.Image.{Image, Key, root, flag, state, field, partitions, slots, phase, count, allowance, anchors, get, lengthOf, size, place, placeOf}
+use Rattle.model.specs.Image.{Image, Key, anchor, root, flag, state, field, partitions, slots, phase, count, allowance, anchors, get, lengthOf, size, place, placeOf}
 use Rattle.model.specs.Acts.{Act, commit, single, perform}
 use Rattle.model.specs.Sound.{Sound}
 use Rattle.writer.specs.Record.{recordOf, newest, headingOf}
@@ -55,7 +55,7 @@ pub data WrongSize (P S n : ℕ) : Type 0 where
 abbrev pub WrongCount : ℕ → Type 0
 WrongCount n = (n ≡ 0) ⊎ (mostOperations < n)
 
--- 7: partition, slot, field or root number too large
+-- 7: partition, slot, field, root or handle number too large
 abbrev pub TooLarge : ℕ → ℕ → Name → Type 0
 TooLarge P S n = (P ≤ n .partition .0) ⊎ (S ≤ n .slot .0)
 
@@ -81,7 +81,7 @@ NotOpen img = get img phase ≢ 1
 abbrev pub AlreadyOpen : Image → Type 0
 AlreadyOpen img = get img phase ≡ 1
 
--- 12: no root in use
+-- 12: no root in use (handles are not looked at)
 abbrev pub NoRoot : Image → Type 0
 NoRoot img = (r : ℕ) → r < roots → get img (root r) ≡ 0
 
@@ -99,9 +99,9 @@ pub record Lowest (img : Image) (p : ℕ) : Type 0 where
 abbrev pub Spent : Image → Type 0
 Spent img = get img count ≡ get img allowance
 
--- 16: a root or marked object refers to an unmarked one
+-- 16: a root, a handle or a marked object refers to an unmarked one (an anchor is a root or a handle)
 pub data Live (img : Image) : Key → Type 0 where
-  a-root : {r : ℕ} → r < anchors → Live img (root r)
+  an-anchor : {a : ℕ} → a < anchors → Live img (anchor a)
   a-field : {j k : ℕ} → j < get img partitions * get img slots → get img (state j) ≡ 2 → k < fields → Live img (field j k)
 
 pub record Astray (img : Image) : Type 0 where
@@ -132,7 +132,7 @@ operationsRows P S img e [] = []
 operationsRows P S img e (o ∷ os) = operationRows P S img e o ++ operationsRows P S (perform S img o) (e + 1) os
 
 -- an act's own list, in its call as in recovery: each operation in turn; OPEN 11, 12; TRACE 10, 7, 13, 15;
--- CLOSE 10, 12, 14, 16, with 14 the lowest partition that is not clean; LOCAL 7, 12
+-- CLOSE 10, 12, 14, 16, with 14 the lowest partition that is not clean; LOCAL 7, 12; HOLD 7 for all its numbers, 9; DROP 7
 abbrev pub actRows : Image → Act → List Row
 actRows img (commit os) = operationsRows (get img partitions) (get img slots) img 1 os
 actRows img (single Open) = given 11 0 (AlreadyOpen img) ∷ given 12 0 (NoRoot img) ∷ []
@@ -140,8 +140,11 @@ actRows img (single (Trace p)) =
     given 10 0 (NotOpen img) ∷ given 7 0 (get img partitions ≤ p .0) ∷ given 13 0 (Clean img (p .0)) ∷ given 15 0 (Spent img) ∷ []
 actRows img (single Close) = given 10 0 (NotOpen img) ∷ given 12 0 (NoRoot img) ∷ telling 14 (Lowest img) ∷ given 16 0 (Astray img) ∷ []
 actRows img (single (Local p)) = given 7 0 (get img partitions ≤ p .0) ∷ given 12 0 (NoRoot img) ∷ []
+actRows img (single (Hold h n)) =
+    given 7 0 ((handles ≤ h .0) ⊎ TooLarge (get img partitions) (get img slots) n) ∷ given 9 0 (NotInUse (get img slots) img n) ∷ []
+actRows img (single (Drop h)) = given 7 0 (handles ≤ h .0) ∷ []
 
--- an act whose record is a single line (OPEN, TRACE, CLOSE, LOCAL): 1, its own list, 17
+-- an act whose record is a single line (OPEN, TRACE, CLOSE, LOCAL, HOLD, DROP): 1, its own list, 17
 abbrev pub callRows : Image → Act → List ℕ → ℕ → List Row
 callRows img a log at = given 1 0 (Unsound img) ∷ (actRows img a ++ (given 17 0 (NoRoom (recordOf a) at log) ∷ []))
 

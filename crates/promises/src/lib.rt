@@ -3,5 +3,5 @@
 // Demand 2, every cut of a log: specs/Book, proofs/Books. What a call writes, what local spares and what ask answers: specs/Effects,
 // proofs/Effects; what outlist answers: proofs/Outlists. Counts are right: specs/Counts, proofs/Counts.
 // Reached, whatever calls are made: specs/World, proofs/Reached. Demand 3, on every heap so reached whose phase is open: specs/Phase,
-// proofs/Phases. The starred numbers: specs/Paper, proofs/Starred.
+// proofs/Phases. What a session handle keeps, from a hold on: specs/Sessions, proofs/Sessions. The starred numbers: specs/Paper, proofs/Starred.
 // That no second outcome meets a call's contract is proved beside the contracts. The crate has no code.

@@ -10,13 +10,13 @@ use lib.ListN.{getD, replicate}
 use borrow.Author.Tests.{lt-ltb, le-ltb, eq-eqb, ne-eqb, eqb-false, not-true}
 use Rattle.loops.specs.Loop.{both}
 use Rattle.loops.proofs.Tests.{same-test, both-true, both-so}
-use Rattle.model.specs.Image.{Image, Key, root, field, anchors, Holder, a-root, a-field}
-use Rattle.model.specs.Questions.{Bits, hasBit, collect, held, heldAt, rootBits, reachedBits, ask}
+use Rattle.model.specs.Image.{Image, Key, anchor, field, anchors, Holder, an-anchor, a-field}
+use Rattle.model.specs.Questions.{Bits, hasBit, collect, held, heldAt, anchorBits, reachedBits, ask}
 use Rattle.model.specs.Outlist.{mostPlaces}
 use Rattle.model.proofs.Alike.{Alike, Fits, alike-none, collect-alike, spread-alike}
 use Rattle.image.specs.Within.{Within}
 use Rattle.image.proofs.Within.{places}
-use Rattle.todo.specs.Notes.{among, noteWord, noteRoots, spreadAmong}
+use Rattle.todo.specs.Notes.{among, noteWord, noteAnchors, spreadAmong}
 
 module _ {P S : ℕ} {x : Image} (w : Within P S x) where
   leads : (κ : Key) → Holder (P * S) κ → held x κ ≡ true → heldAt S x κ < P * S
@@ -30,14 +30,14 @@ module _ {P S : ℕ} {x : Image} (w : Within P S x) where
   fits : (κ : Key) → Holder (P * S) κ → held x κ ≡ true → Fits mostPlaces (P * S) (heldAt S x κ)
   fits κ h e = (omega (arith, leads κ h e, places w), leads κ h e)
 
-  begun : Alike mostPlaces (P * S) (noteRoots S 0 (P * S) x (replicate mostPlaces 0)) (rootBits S x (P * S))
-  unfolding noteRoots noteWord rootBits collect
+  begun : Alike mostPlaces (P * S) (noteAnchors S 0 (P * S) x (replicate mostPlaces 0)) (anchorBits S x (P * S))
+  unfolding noteAnchors noteWord anchorBits collect
   begun =
-      collect-alike mostPlaces (P * S) anchors _ _ _ (λ r l. among-all (root r) (a-root l)) (λ r l. fits (root r) (a-root l)) (replicate mostPlaces 0) (replicate (P * S) 0)
+      collect-alike mostPlaces (P * S) anchors _ _ _ (λ r l. among-all (anchor r) (an-anchor l)) (λ r l. fits (anchor r) (an-anchor l)) (replicate mostPlaces 0) (replicate (P * S) 0)
       (alike-none mostPlaces (P * S))
 
   -- from nothing: what roots name, and what is spread from there
-  module _ {a b marks : Bits} (none : a ≡ replicate mostPlaces 0) (roots : b ≡ noteRoots S 0 (P * S) x a) (all : marks ≡ spreadAmong S 0 (P * S) x b) (j : ℕ) where
+  module _ {a b marks : Bits} (none : a ≡ replicate mostPlaces 0) (roots : b ≡ noteAnchors S 0 (P * S) x a) (all : marks ≡ spreadAmong S 0 (P * S) x b) (j : ℕ) where
     answered : hasBit marks j ≡ ask P S x j
     unfolding spreadAmong ask reachedBits
     answered =

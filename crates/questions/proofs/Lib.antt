@@ -1,2 +1,2 @@
 pub mod Answering
-pub mod Naming
+pub mod Reading

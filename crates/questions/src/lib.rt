@@ -1,37 +1,16 @@
-// The questions on an image: read an object, and ask whether a root leads to it. Both leave the image as found.
-// `judge_name` says 7 or 9, `read` answers the record, and `ask` says yes exactly where the model's `ask` does: each contract is that equation.
-// `ask` notes what roots name and lets crate todo follow the fields from there, over as many bits as there can be places. That these have the
-// places of the model's `ask` is `answered` in proofs/Answering.antt. What an accepted name tells the caller of `read` and `ask` is
-// `accepted-in` in proofs/Naming.antt.
+// The questions on an image: read an object, and ask whether a root or a handle leads to it. Both leave the image as found.
+// `read` answers the record, and `ask` says yes exactly where the model's `ask` does: each contract is that equation.
+// `ask` notes what roots and handles name and lets crate todo follow the fields from there, over as many bits as there can be places. That these have the
+// places of the model's `ask` is `answered` in proofs/Answering.antt. A name is judged in
+// crate verdicts.
 use kinds::Field;
 use kinds::Name;
 use kinds::Record;
-use kinds::Refusal;
-use kinds::Verdict;
 ghost use mathlib.Core.Path.{_≡_};
 ghost use Prim.Native.Nat.{ℕ, _*_, _<_};
 ghost use Rattle.model.specs.Image.{field, place, Has};
-ghost use Rattle.model.specs.Judge.{judgeName};
 ghost use Rattle.model.specs.Questions as Questions;
 ghost use Rattle.image.specs.Within.{Within};
-
-// What a question on a name is refused with: 7 for its numbers, then 9.
-pub fn judge_name(img: &[u32], p: usize, s: usize, n: Name) -> Verdict
-    requires { ⌜ Within p s (now img) ⌝ }
-    ensures { λ r. ⌜ r ≡ judgeName p s (now (img .entry)) n ⌝ }
-{
-    if p <= n.partition.0 as usize {
-        return Verdict::refuse(Refusal::RANGE, 0);
-    }
-    if s <= n.slot.0 as usize {
-        return Verdict::refuse(Refusal::RANGE, 0);
-    }
-    let j = image::place(n, s);
-    if image::state_at(img, j) == 0 {
-        return Verdict::refuse(Refusal::ABSENT, 0);
-    }
-    Verdict::Accepted
-}
 
 // Field k of place j.
 fn field_at(img: &[u32], j: usize, k: usize) -> Field
@@ -59,7 +38,7 @@ pub fn read(img: &[u32], s: usize, n: Name) -> Record
     }
 }
 
-// Whether a root leads to the object of a name.
+// Whether a root or a handle leads to the object of a name.
 pub fn ask(img: &[u32], p: usize, s: usize, n: Name) -> bool
     requires { ⌜ Within p s (now img) ⌝ }
     requires { ⌜ place s n < p * s ⌝ }
@@ -69,7 +48,7 @@ pub fn ask(img: &[u32], p: usize, s: usize, n: Name) -> bool
     let all = p * s;
     let mut marks = image::zeros();
     let mut list = image::zeros();
-    let m = todo::note_roots(img, p, s, 0, all, &mut marks, &mut list, 0);
+    let m = todo::note_anchors(img, p, s, 0, all, &mut marks, &mut list, 0);
     todo::spread(img, p, s, 0, all, &mut marks, &mut list, m);
     if marks[j] == 1 {
         return true;

@@ -2,6 +2,8 @@
 // of acts that are a single line are the log's.
 use lines::words::CLOSE;
 use lines::words::CLR;
+use lines::words::DROP;
+use lines::words::HOLD;
 use lines::words::LOCAL;
 use lines::words::NEW;
 use lines::words::OPEN;
@@ -51,8 +53,9 @@ pub(crate) fn takes(w: u64) -> usize
     match w {
         DIGEST | SHOW | HELP => 0,
         IMAGE | BUFFER | UNROOT | COMMIT | OPEN | CLOSE | OUTLIST | RECOVER | LOG => 1,
-        WORD | TRACE | LOCAL | READ | ASK => 2,
+        WORD | TRACE | LOCAL | READ | ASK | DROP => 2,
         FORMAT | NEW | CLR | VAL | ROOT => 3,
+        HOLD => 4,
         SET => 5,
         _ => NONE,
     }

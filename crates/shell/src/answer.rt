@@ -92,7 +92,7 @@ pub(crate) fn name(out: &mut [u8; 4096], at: usize, n: Name) -> usize {
     decimal(out, b, n.slot.0 as u64)
 }
 
-// A space and what a field or a root holds: `-` for nothing.
+// A space and what a field, a root or a handle holds: `-` for nothing.
 pub(crate) fn target(out: &mut [u8; 4096], at: usize, t: Target) -> usize {
     let a = byte(&mut *out, at, b' ');
     match t {

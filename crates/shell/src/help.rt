@@ -21,8 +21,10 @@ pub(crate) fn help(out: &mut [u8; 4096], at: usize) -> usize {
         trace P AT      traces partition P\n\
         close AT        closes the phase, and frees\n\
         local P AT      frees partition P on its own\n\
+        hold H P S AT   handle H holds P.S\n\
+        drop H AT       handle H holds nothing\n\
         read P S        the object P.S\n\
-        ask P S         whether a root leads to P.S\n\
+        ask P S         whether a root or handle leads to P.S\n\
         outlist P       what partition P names in others\n\
         recover N       recovery of the first N bytes of the log\n\
         digest          a sum of the image and one of the log\n\

@@ -8,12 +8,13 @@ use crate::out::end;
 use crate::out::number;
 use crate::out::text;
 use crate::out::valued;
+use image::ANCHORS;
+use image::anchor_at;
 use image::field_at;
 use image::flag_at;
 use image::head_at;
 use image::inlist_at;
 use image::payload_at;
-use image::root_at;
 use image::state_at;
 use kinds::Field;
 use kinds::Partition;
@@ -65,24 +66,33 @@ fn phase(out: &mut [u8; 4096], at: usize, img: &[u32], p: usize, s: usize) -> us
     end(out, b)
 }
 
-fn root(out: &mut [u8; 4096], at: usize, r: usize, w: u32) -> usize {
+// A root, or a session handle, by its number.
+fn called(out: &mut [u8; 4096], at: usize, a: usize) -> usize {
+    if a < ROOTS {
+        return valued(out, at, b"root", a as u64);
+    }
+    valued(out, at, b"handle", (a - ROOTS) as u64)
+}
+
+fn anchor(out: &mut [u8; 4096], at: usize, a: usize, w: u32) -> usize {
     if w == 0 {
         return at;
     }
-    let a = valued(&mut *out, at, b"root", r as u64);
-    let b = target(&mut *out, a, target_of(w));
+    let n = called(&mut *out, at, a);
+    let b = target(&mut *out, n, target_of(w));
     end(out, b)
 }
 
-fn roots(out: &mut [u8; 4096], at: usize, img: &[u32], p: usize, s: usize) -> usize
+// The roots in use, then the handles.
+fn anchors(out: &mut [u8; 4096], at: usize, img: &[u32], p: usize, s: usize) -> usize
     requires { ⌜ Within p s (now img) ⌝ }
 {
     let mut n = at;
-    let mut r = 0;
-    while r < ROOTS {
-        let w = root_at(img, r);
-        n = root(&mut *out, n, r, w);
-        r += 1;
+    let mut a = 0;
+    while a < ANCHORS {
+        let w = anchor_at(img, a);
+        n = anchor(&mut *out, n, a, w);
+        a += 1;
     }
     n
 }
@@ -176,7 +186,7 @@ fn whole(out: &mut [u8; 4096], at: usize, img: &[u32], p: usize, s: usize) -> us
 {
     let mut n = head(&mut *out, at, p, s);
     n = phase(&mut *out, n, img, p, s);
-    n = roots(&mut *out, n, img, p, s);
+    n = anchors(&mut *out, n, img, p, s);
     n = flags(&mut *out, n, img, p, s);
     objects(out, n, img, p, s)
 }

@@ -15,12 +15,12 @@ use Rattle.kinds.specs.declared.Refusal.{Refusal}
 use Rattle.kinds.specs.declared.Verdict.{Verdict}
 use Rattle.kinds.specs.declared.Verdict.the-variants.{Accepted, Refused}
 use Rattle.kinds.proofs.Answers.{unlike}
-use Rattle.model.specs.Image.{Image, Key, root, partitions, slots, phase, front, anchors, get, lengthOf, size, placeOf, a-root}
+use Rattle.model.specs.Image.{Image, Key, anchor, partitions, slots, phase, front, anchors, get, lengthOf, size, placeOf, an-anchor}
 use Rattle.model.specs.Acts.{used, isOpen}
 use Rattle.model.specs.Judge.{judgeFormat}
-use Rattle.model.specs.Sound.{refOk, slotOk, countOk, rootOk, flagOk, openOk, shutOk, SoundAt, Sound, soundAt}
+use Rattle.model.specs.Sound.{refOk, slotOk, countOk, anchorOk, flagOk, openOk, shutOk, SoundAt, Sound, soundAt}
 use Rattle.model.proofs.Keys.{sized-length, length-sized}
-use Rattle.model.proofs.Soundness.{limits-back, range-back, slot-back, right-back, root-back, flag-back, sound-slot, sound-flag, sound-at-not}
+use Rattle.model.proofs.Soundness.{limits-back, range-back, slot-back, right-back, anchor-back, flag-back, sound-slot, sound-flag, sound-at-not}
 use Rattle.image.proofs.Formats.{format-so, format-true}
 use Rattle.soundness.specs.Checks.{Shaped}
 
@@ -50,7 +50,7 @@ module _ (P S : ℕ) (x : Image) where
     pub phase-bit : get x phase ≤ 1
     pub slots : every (P * S) (slotOk P S x) ≡ true
     pub counts : every (P * S) (countOk S (P * S) x) ≡ true
-    pub roots : every anchors (rootOk P S x) ≡ true
+    pub roots : every anchors (anchorOk P S x) ≡ true
     pub flags : every mostPartitions (flagOk P x) ≡ true
 
   passed : SoundAt P S x → Passed
@@ -59,7 +59,7 @@ module _ (P S : ℕ) (x : Image) where
         phase-bit = h .phase-bit;
         slots = every-so (P * S) (slotOk P S x) (λ j l. slot-back P S x j (sound-slot P S x h j l));
         counts = right-back P S x (h .right);
-        roots = every-so anchors (rootOk P S x) (λ r l. root-back P S x r (h .references (root r) (a-root l)));
+        roots = every-so anchors (anchorOk P S x) (λ r l. anchor-back P S x r (h .references (anchor r) (an-anchor l)));
         flags = every-so mostPartitions (flagOk P x) (λ p l. flag-back P x p (sound-flag P S x h p l));
       }
 

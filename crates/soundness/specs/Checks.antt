@@ -8,9 +8,9 @@ use Rattle.loops.specs.Loop.{tally}
 use Rattle.kinds.specs.Names.{mostPartitions}
 use Rattle.model.specs.Image.{Image, Sized, anchors, field, get}
 use Rattle.model.specs.Outlist.{mostPlaces}
-use Rattle.model.specs.Sound.{Limits, points, rootOk, flagOk, flagDown, unmarkedAt}
+use Rattle.model.specs.Sound.{Limits, points, anchorOk, flagOk, flagDown, unmarkedAt}
 use Rattle.soundness.specs.declared.Check.{Check}
-use Rattle.soundness.specs.declared.Check.the-variants.{Root, Flag, Down, Unmarked}
+use Rattle.soundness.specs.declared.Check.the-variants.{Anchor, Flag, Down, Unmarked}
 
 -- P and S are in their limits, and the length agrees with them
 pub record Shaped (P S : ℕ) (x : Image) : Type 0 where
@@ -28,13 +28,13 @@ pub record Tallied (S : ℕ) (x : Image) (f : ℕ) (c : List ℕ) : Type 0 where
 
 -- how many indexes a check has
 abbrev pub reach : ℕ → ℕ → Check → ℕ
-reach P S Root = anchors
+reach P S Anchor = anchors
 reach P S Flag = mostPartitions
 reach P S Down = mostPartitions
 reach P S Unmarked = P * S
 
 abbrev pub testAt : ℕ → ℕ → Image → Check → ℕ → Bool
-testAt P S x Root = rootOk P S x
+testAt P S x Anchor = anchorOk P S x
 testAt P S x Flag = flagOk P x
 testAt P S x Down = flagDown x
 testAt P S x Unmarked = unmarkedAt x

@@ -15,9 +15,9 @@ ghost use Rattle.model.specs.Image.{Key, flag, state, field, Has, get, partOf};
 ghost use Rattle.model.specs.Sound.{refOk, freeOk, slotOk, countOk, flagOk, flagDown, unmarkedAt, openOk, shutOk, soundAt, isSound};
 ghost use Rattle.soundness.specs.Checks.{Shaped, Tallied, reach, testAt};
 
-// What is tested at every index beside the slots: the roots, the flags, and with the phase shut that no flag is up and nothing is marked.
+// What is tested at every index beside the slots: the roots and handles, the flags, and with the phase shut that no flag is up and nothing is marked.
 enum Check {
-    Root,
+    Anchor,
     Flag,
     Down,
     Unmarked,
@@ -243,7 +243,7 @@ fn test(img: &[u32], p: usize, s: usize, k: Check, i: usize) -> bool
     ensures { λ r. ⌜ r ≡ testAt p s (now (img .entry)) k i ⌝ }
 {
     match k {
-        Check::Root => ref_ok(img, p, s, image::root_at(img, i)),
+        Check::Anchor => ref_ok(img, p, s, image::anchor_at(img, i)),
         Check::Flag => flag_ok(img, p, i),
         Check::Down => flag_down(img, i),
         Check::Unmarked => unmarked(img, i),
@@ -300,7 +300,7 @@ fn shut_ok(img: &[u32], p: usize, s: usize) -> bool
     all(img, p, s, Check::Unmarked, p * s)
 }
 
-// An image of the right length is sound: the phase, the slots, their counts, the roots, the flags, and what the phase asks.
+// An image of the right length is sound: the phase, the slots, their counts, the roots and handles, the flags, and what the phase asks.
 fn sound_at(img: &[u32], p: usize, s: usize) -> bool
     requires { ⌜ Shaped p s (now img) ⌝ }
     ensures { λ r. ⌜ r ≡ soundAt p s (now (img .entry)) ⌝ }
@@ -318,8 +318,8 @@ fn sound_at(img: &[u32], p: usize, s: usize) -> bool
     if !right {
         return false;
     }
-    let roots = all(img, p, s, Check::Root, image::ANCHORS);
-    if !roots {
+    let anchors = all(img, p, s, Check::Anchor, image::ANCHORS);
+    if !anchors {
         return false;
     }
     let flags = all(img, p, s, Check::Flag, kinds::Partition::LIMIT as usize);

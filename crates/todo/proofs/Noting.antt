@@ -12,13 +12,13 @@ use borrow.Author.Tests.{lt-ltb, le-ltb, eq-eqb, ne-eqb}
 use Rattle.loops.specs.Loop.{each}
 use Rattle.loops.proofs.Tests.{is-false, both-false}
 use Rattle.loops.proofs.Turns.{each-none, each-more, each-done}
-use Rattle.model.specs.Image.{Image, root, field, anchors, get, placeOf}
+use Rattle.model.specs.Image.{Image, anchor, field, anchors, get, placeOf}
 use Rattle.model.specs.Walk.{Todo}
 use Rattle.model.specs.Questions.{Bits, hasBit, addBit}
 use Rattle.model.specs.Outlist.{mostPlaces}
 use Rattle.model.proofs.Bits.{Wide, none-has, bit-same, bit-other, bit-had}
 use Rattle.model.proofs.Walking.{longer-none, longer-one, longer-then, todo-none, todo-most, todo-more}
-use Rattle.todo.specs.Notes.{noteWord, noteRoots, noteFields, Noted, More}
+use Rattle.todo.specs.Notes.{noteWord, noteAnchors, noteFields, Noted, More}
 
 -- at first nothing is noted
 pub noted-none : {lo n : ℕ} (marks : Bits) (list : List ℕ) → marks ≡ replicate mostPlaces 0 → list ≡ replicate mostPlaces 0 → lo + n ≤ mostPlaces → Noted lo n marks list 0
@@ -95,18 +95,18 @@ module _ (S lo n w : ℕ) (b : Bits) where
 -- the roots, one by one
 module _ (S lo n : ℕ) (img : Image) (b : Bits) where
   -- after the first k of them
-  abbrev pub rootsNoted : ℕ → Bits
-  rootsNoted k = each k (λ c r. noteWord S lo n (get img (root r)) c) b
+  abbrev pub anchorsNoted : ℕ → Bits
+  anchorsNoted k = each k (λ c r. noteWord S lo n (get img (anchor r)) c) b
 
-  pub roots-none : b ≡ rootsNoted 0
-  roots-none = each-none _ b
+  pub anchors-none : b ≡ anchorsNoted 0
+  anchors-none = each-none _ b
 
-  pub roots-more : (k w : ℕ) {c d : Bits} → w ≡ get img (root k) → c ≡ rootsNoted k → d ≡ noteWord S lo n w c → d ≡ rootsNoted (k + 1)
-  roots-more k w {c} q e h = h ∙ rw q (each-more _ b k c e)
+  pub anchors-more : (k w : ℕ) {c d : Bits} → w ≡ get img (anchor k) → c ≡ anchorsNoted k → d ≡ noteWord S lo n w c → d ≡ anchorsNoted (k + 1)
+  anchors-more k w {c} q e h = h ∙ rw q (each-more _ b k c e)
 
-  pub roots-done : (k : ℕ) {c : Bits} → k ≤ anchors → anchors ≤ k → c ≡ rootsNoted k → c ≡ noteRoots S lo n img b
-  unfolding noteRoots
-  roots-done k {c} h g e = each-done _ b anchors k c h g e
+  pub anchors-done : (k : ℕ) {c : Bits} → k ≤ anchors → anchors ≤ k → c ≡ anchorsNoted k → c ≡ noteAnchors S lo n img b
+  unfolding noteAnchors
+  anchors-done k {c} h g e = each-done _ b anchors k c h g e
 
 -- the four fields, one by one
 pub fields-all : (S lo n : ℕ) (img : Image) (j : ℕ) (b : Bits) {v w x y : ℕ} {c d e f : Bits}

@@ -6,7 +6,7 @@ use mathlib.Core.List.{List}
 use lib.Dec.{eqb, ltb}
 use lib.ListN.{length}
 use Rattle.loops.specs.Loop.{both, each}
-use Rattle.model.specs.Image.{Image, root, field, anchors, get, placeOf}
+use Rattle.model.specs.Image.{Image, anchor, field, anchors, get, placeOf}
 use Rattle.model.specs.Spread.{spread}
 use Rattle.model.specs.Walk.{Todo, Longer}
 use Rattle.model.specs.Acts.{refers, target}
@@ -21,9 +21,9 @@ among lo n j = both (not (ltb j lo)) (ltb j (lo + n))
 unfoldable pub noteWord : ℕ → ℕ → ℕ → ℕ → Bits → Bits
 noteWord S lo n w b = cond (both (not (eqb w 0)) (among lo n (placeOf S w))) (addBit b (placeOf S w)) b
 
--- the same of the roots
-unfoldable pub noteRoots : ℕ → ℕ → ℕ → Image → Bits → Bits
-noteRoots S lo n img b = each anchors (λ c r. noteWord S lo n (get img (root r)) c) b
+-- the same of the roots and the handles
+unfoldable pub noteAnchors : ℕ → ℕ → ℕ → Image → Bits → Bits
+noteAnchors S lo n img b = each anchors (λ c a. noteWord S lo n (get img (anchor a)) c) b
 
 -- the same of the four fields of the object at j
 unfoldable pub noteFields : ℕ → ℕ → ℕ → Image → ℕ → Bits → Bits

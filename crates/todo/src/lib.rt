@@ -1,5 +1,5 @@
 // A list of places still to visit, over two arrays: `marks` says which of the n places from lo on are noted, and the first m of `list` are these
-// places in the order of their noting (`Noted`, specs/Notes.antt). `enter` notes a place, `note_roots` what roots name among these places,
+// places in the order of their noting (`Noted`, specs/Notes.antt). `enter` notes a place, `note_anchors` what roots and handles name among these places,
 // and `spread` visits the list from its front, noting what the fields of each place name, until the list has no place left. That it comes to
 // the bits that the model's passes come to is `spread`'s contract, by the theory of walks (model/proofs/Walking.antt) in proofs/Leading.antt.
 ghost use mathlib.Core.Path.{_≡_};
@@ -7,7 +7,7 @@ ghost use Prim.Native.Nat.{_+_, _*_, _≤_, _<_};
 ghost use Rattle.kinds.specs.Names.{mostSlots};
 ghost use Rattle.model.specs.Questions.{addBit};
 ghost use Rattle.image.specs.Within.{Within};
-ghost use Rattle.todo.specs.Notes.{noteWord, noteRoots, noteFields, spreadAmong, Noted, More};
+ghost use Rattle.todo.specs.Notes.{noteWord, noteAnchors, noteFields, spreadAmong, Noted, More};
 
 // Place j, one of the n from lo on, is noted, unless it is: marked, and put at the end of the list.
 pub fn enter(
@@ -57,8 +57,8 @@ fn note(
     enter(lo, n, j, &mut *marks, &mut *list, m)
 }
 
-// The same of every root.
-pub fn note_roots(
+// The same of every root and handle.
+pub fn note_anchors(
     img: &[u32],
     p: usize,
     s: usize,
@@ -70,12 +70,12 @@ pub fn note_roots(
 ) -> usize
     requires { ⌜ Within p s (now img) ⌝ }
     requires { ⌜ Noted lo n (now marks) (now list) m ⌝ }
-    ensures { λ r. ⌜ (now (marks .exit) ≡ noteRoots s lo n (now (img .entry)) (now (marks .entry))) × More lo n (now (list .entry)) m (now (marks .exit)) (now (list .exit)) r ⌝ }
+    ensures { λ r. ⌜ (now (marks .exit) ≡ noteAnchors s lo n (now (img .entry)) (now (marks .entry))) × More lo n (now (list .entry)) m (now (marks .exit)) (now (list .exit)) r ⌝ }
 {
     let mut end = m;
     let mut i: usize = 0;
     while i < image::ANCHORS {
-        let w = image::root_at(img, i);
+        let w = image::anchor_at(img, i);
         end = note(s, lo, n, w, &mut *marks, &mut *list, end);
         i += 1;
     }

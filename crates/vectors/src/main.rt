@@ -73,6 +73,14 @@ fn show_single(a: Single) {
             say(b" local");
             number(p.0);
         }
+        Single::Hold(h, n) => {
+            say(b" hold");
+            three(h.0, n.partition.0, n.slot.0);
+        }
+        Single::Drop(h) => {
+            say(b" drop");
+            number(h.0);
+        }
     }
 }
 

@@ -10,11 +10,11 @@ use Rattle.loops.specs.Loop.{first, every}
 use Rattle.loops.proofs.Tests.{both-false}
 use Rattle.loops.proofs.Loops.{tally-some}
 use Rattle.kinds.specs.Names.{roots, fields}
-use Rattle.model.specs.Image.{Image, root, flag, field, anchors, get}
+use Rattle.model.specs.Image.{Image, root, anchor, flag, field, anchors, get}
 use Rattle.model.specs.Acts.{marked, notClean}
 use Rattle.model.specs.Judge.{rooted, leadsOn, led, lowest}
 use Rattle.loops.proofs.Walks.{first-some, first-none, first-fails, first-every, tally-none-pass}
-use Rattle.verdicts.specs.declared.Sought.the-variants.{Rooted, Unclean, RootAstray, SlotAstray}
+use Rattle.verdicts.specs.declared.Sought.the-variants.{Rooted, Unclean, AnchorAstray, SlotAstray}
 use Rattle.verdicts.specs.Searches.{strays, meets}
 
 module _ (S : ℕ) (img : Image) where
@@ -41,22 +41,22 @@ module _ (S : ℕ) (img : Image) where
     unclean-none l =
         eq-eqb (notClean P img) 0 (tally-none-pass P (λ p. eqb (get img (flag p)) 0) (λ i m. first-none (meets S img Unclean) P 0 (omega arith) i (omega arith) (omega arith)))
 
-    -- a root leads astray; a marked object does; none does
-    pub led-root : first anchors 0 (meets S img RootAstray) < anchors → led P S img ≡ false
+    -- a root or a handle leads astray; a marked object does; none does
+    pub led-anchor : first anchors 0 (meets S img AnchorAstray) < anchors → led P S img ≡ false
     unfolding led meets
-    led-root l = rw (first-fails anchors (meets S img RootAstray) (λ r. leadsOn S img (root r)) (λ i. refl) l)
+    led-anchor l = rw (first-fails anchors (meets S img AnchorAstray) (λ r. leadsOn S img (anchor r)) (λ i. refl) l)
 
     leads : ℕ → Bool
     leads j = cond (marked img j) (every fields (λ k. leadsOn S img (field j k))) true
 
     pub led-slot : first (P * S) 0 (meets S img SlotAstray) < P * S → led P S img ≡ false
     unfolding led meets strays leads
-    led-slot l = rw (first-fails (P * S) (meets S img SlotAstray) leads (λ i. refl) l) (both-false (every anchors (λ r. leadsOn S img (root r))))
+    led-slot l = rw (first-fails (P * S) (meets S img SlotAstray) leads (λ i. refl) l) (both-false (every anchors (λ r. leadsOn S img (anchor r))))
 
-    pub led-so : anchors ≤ first anchors 0 (meets S img RootAstray) → P * S ≤ first (P * S) 0 (meets S img SlotAstray) → led P S img ≡ true
+    pub led-so : anchors ≤ first anchors 0 (meets S img AnchorAstray) → P * S ≤ first (P * S) 0 (meets S img SlotAstray) → led P S img ≡ true
     unfolding led meets strays leads
     led-so l m =
         rw (
-          first-every anchors (meets S img RootAstray) (λ r. leadsOn S img (root r)) (λ i. refl) l,
+          first-every anchors (meets S img AnchorAstray) (λ r. leadsOn S img (anchor r)) (λ i. refl) l,
           first-every (P * S) (meets S img SlotAstray) leads (λ i. refl) m,
         )

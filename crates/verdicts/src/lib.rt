@@ -1,27 +1,29 @@
-// The verdicts on acts whose record is a single line (`judge`) and on an outlist. Each judge leaves the image alone and is proved equal to the
+// The verdicts on acts whose record is a single line (`judge`), on an outlist and on the object of a name. Each judge leaves the image alone and is proved equal to the
 // model's (model/specs/Judge.antt). Their loops are one search for the first that meets a test (specs/Searches.antt); what a search comes to is
 // proved in proofs/Searches.antt.
 // P and S are handed in as p and s; `Within` keeps every reference in range.
+use kinds::Handle;
+use kinds::Name;
 use kinds::Partition;
 use kinds::Refusal;
 use kinds::Single;
 use kinds::Verdict;
-ghost use Prim.Native.Nat.{_*_, _<_, _≤_};
+ghost use Prim.Native.Nat.{ℕ, _*_, _<_, _≤_};
 ghost use mathlib.Core.Path.{_≡_};
 ghost use mathlib.Core.Logic.{_≢_};
-ghost use Rattle.model.specs.Image.{placeOf};
-ghost use Rattle.kinds.specs.declared.Single.the-variants.{Open, Trace, Close, Local};
+ghost use Rattle.model.specs.Image.{Image, placeOf};
+ghost use Rattle.kinds.specs.declared.Single.the-variants.{Open, Trace, Close, Local, Hold, Drop};
 ghost use Rattle.model.specs.Acts.{single};
-ghost use Rattle.model.specs.Judge.{judge, judgeOutlist, rooted, led};
+ghost use Rattle.model.specs.Judge.{judge, judgeName, judgeOutlist, rooted, led};
 ghost use Rattle.loops.specs.Loop.{first};
 ghost use Rattle.image.specs.Within.{Within};
 ghost use Rattle.verdicts.specs.Searches.{astray, strays, meets, reach};
 
-// What the judges look for: a root in use, a partition that is not clean, and a root or a marked object that leads to an unmarked one.
+// What the judges look for: a root in use, a partition that is not clean, and a root, a handle or a marked object that leads to an unmarked one.
 enum Sought {
     Rooted,
     Unclean,
-    RootAstray,
+    AnchorAstray,
     SlotAstray,
 }
 
@@ -65,7 +67,7 @@ fn strays(img: &[u32], p: usize, s: usize, j: usize) -> bool
     false
 }
 
-// The i-th root, partition or place is one that a judge looks for.
+// The i-th root, anchor, partition or place is one that a judge looks for.
 fn meets(img: &[u32], p: usize, s: usize, t: Sought, i: usize) -> bool
     requires { ⌜ Within p s (now img) ⌝ }
     requires { ⌜ i < reach p s t ⌝ }
@@ -73,7 +75,7 @@ fn meets(img: &[u32], p: usize, s: usize, t: Sought, i: usize) -> bool
 {
     match t {
         Sought::Rooted => {
-            if image::root_at(img, i) == 0 {
+            if image::anchor_at(img, i) == 0 {
                 return false;
             }
             true
@@ -84,7 +86,7 @@ fn meets(img: &[u32], p: usize, s: usize, t: Sought, i: usize) -> bool
             }
             false
         }
-        Sought::RootAstray => astray(img, p, s, image::root_at(img, i)),
+        Sought::AnchorAstray => astray(img, p, s, image::anchor_at(img, i)),
         Sought::SlotAstray => strays(img, p, s, i),
     }
 }
@@ -119,12 +121,12 @@ fn rooted(img: &[u32], p: usize, s: usize) -> bool
     false
 }
 
-// Roots and marked objects refer to marked objects only.
+// Roots, handles and marked objects refer to marked objects only.
 fn led(img: &[u32], p: usize, s: usize) -> bool
     requires { ⌜ Within p s (now img) ⌝ }
     ensures { λ r. ⌜ r ≡ led p s (now (img .entry)) ⌝ }
 {
-    let r = first(img, p, s, Sought::RootAstray, image::ANCHORS);
+    let r = first(img, p, s, Sought::AnchorAstray, image::ANCHORS);
     if r < image::ANCHORS {
         return false;
     }
@@ -211,6 +213,45 @@ fn judge_local(img: &[u32], p: usize, s: usize, t: Partition) -> Verdict
     Verdict::Accepted
 }
 
+// The object of a name, as a question or a hold asks for it: 7 for its numbers, then 9.
+pub fn judge_name(img: &[u32], p: usize, s: usize, n: Name) -> Verdict
+    requires { ⌜ Within p s (now img) ⌝ }
+    ensures { λ r. ⌜ r ≡ judgeName p s (now (img .entry)) n ⌝ }
+{
+    if p <= n.partition.0 as usize {
+        return Verdict::refuse(Refusal::RANGE, 0);
+    }
+    if s <= n.slot.0 as usize {
+        return Verdict::refuse(Refusal::RANGE, 0);
+    }
+    let j = image::place(n, s);
+    if image::state_at(img, j) == 0 {
+        return Verdict::refuse(Refusal::ABSENT, 0);
+    }
+    Verdict::Accepted
+}
+
+// A hold of the object of a name by handle h: 7, 9.
+fn judge_hold(img: &[u32], p: usize, s: usize, h: Handle, n: Name) -> Verdict
+    requires { ⌜ Within p s (now img) ⌝ }
+    ensures { λ r. ⌜ r ≡ judge p s (now (img .entry)) (single (Hold h n)) ⌝ }
+{
+    if Handle::LIMIT <= h.0 { // 7 before 9
+        return Verdict::refuse(Refusal::RANGE, 0);
+    }
+    judge_name(img, p, s, n)
+}
+
+// A drop of handle h: 7, whatever the image is.
+fn judge_drop(h: Handle) -> Verdict
+    ensures { λ r. ⌜ ((P S : ℕ) (x : Image) → r ≡ judge P S x (single (Drop h))) ⌝ }
+{
+    if Handle::LIMIT <= h.0 {
+        return Verdict::refuse(Refusal::RANGE, 0);
+    }
+    Verdict::Accepted
+}
+
 // The verdict on an act.
 pub fn judge(img: &[u32], p: usize, s: usize, a: Single) -> Verdict
     requires { ⌜ Within p s (now img) ⌝ }
@@ -221,6 +262,8 @@ pub fn judge(img: &[u32], p: usize, s: usize, a: Single) -> Verdict
         Single::Trace(t) => judge_trace(img, p, s, t),
         Single::Close => judge_close(img, p, s),
         Single::Local(t) => judge_local(img, p, s, t),
+        Single::Hold(h, n) => judge_hold(img, p, s, h, n),
+        Single::Drop(h) => judge_drop(h),
     }
 }
 

@@ -1,7 +1,7 @@
 -- `collector::step` meets its contract. Assumes nothing.
 use Rattle.kinds.specs.Names.{mostPartitions}
 use Rattle.collector.specs.Sweeps.{swept}
-use Rattle.model.specs.Image.{root, flag, anchors, a-root}
+use Rattle.model.specs.Image.{anchor, flag, anchors, an-anchor}
 use Rattle.image.proofs.Within.{Leads, has-word}
 use Rattle.collector.proofs.Bounds.{with-put, with-mark}
 use Prim.Native.Nat.{_<_, _*_}
@@ -13,15 +13,15 @@ use Rattle.collector.proofs.step.Tie as tie
 in-flags : (c : tie.After-enum-told) → c .before .before .before .args .i < mostPartitions
 in-flags c = rw (c .enum-told .given .1) at (c .before .before .before .pre .1)
 
-in-roots : (c : tie.After-enum-told2) → c .before .before .before .args .i < anchors
-in-roots c = rw (c .enum-told2 .given .1) at (c .before .before .before .pre .1)
+in-anchors : (c : tie.After-enum-told2) → c .before .before .before .args .i < anchors
+in-anchors c = rw (c .enum-told2 .given .1) at (c .before .before .before .pre .1)
 
 in-slots : (c : tie.After-enum-told3) → c .before .before .before .args .i < c .before .before .before .args .p * c .before .before .before .args .s
 in-slots c = rw (c .enum-told3 .given .1) at (c .before .before .before .pre .1)
 
 -- the root's word names one of the places, if any
-leads : (c : tie.After-root-at) → let a = c .before .before .before .before .before .args in Leads (a .p * a .s) (a .s) (c .root-at .result)
-leads c = rw (c .root-at .ensures) (c .before .before .before .before .before .pre .0 .refs (root (c .before .before .before .before .before .args .i)) (a-root (in-roots (c .before .before))))
+leads : (c : tie.After-anchor-at) → let a = c .before .before .before .before .before .args in Leads (a .p * a .s) (a .s) (c .anchor-at .result)
+leads c = rw (c .anchor-at .ensures) (c .before .before .before .before .before .pre .0 .refs (anchor (c .before .before .before .before .before .args .i)) (an-anchor (in-anchors (c .before .before))))
 
 enum-told : tie.Need-enum-told
 enum-told c = search needs
@@ -32,8 +32,8 @@ put-flag-requires c κs = has-word _ _ _ (c .before .before .before .before .pre
 enum-told-2 : tie.Need-enum-told-2
 enum-told-2 c = search needs
 
-root-at-requires : tie.Need-root-at-requires
-root-at-requires c κs = has-word _ _ _ (c .before .before .before .before .pre .0) _ (in-roots (c .before))
+anchor-at-requires : tie.Need-anchor-at-requires
+anchor-at-requires c κs = has-word _ _ _ (c .before .before .before .before .pre .0) _ (in-anchors (c .before))
 
 mark-word-requires : tie.Need-mark-word-requires
 mark-word-requires c κs = let d = c .before in (d .before .before .before .before .before .pre .0, leads d)
@@ -59,7 +59,7 @@ unfolding swept
 returns-2 c =
     let d = c .before .before .before .before in
     let e = c .before .before .mark-word .ensures in
-    (rw (d .before .before .enum-told2 .given .1, ← (d .root-at .ensures)) e, with-mark (d .before .before .before .before .before .pre .0) _ (leads d) e)
+    (rw (d .before .before .enum-told2 .given .1, ← (d .anchor-at .ensures)) e, with-mark (d .before .before .before .before .before .pre .0) _ (leads d) e)
 
 same-length-3 : tie.Need-same-length-3
 same-length-3 c = search needs
@@ -75,7 +75,7 @@ step-spec =
     enum-told
     put-flag-requires
     enum-told-2
-    root-at-requires
+    anchor-at-requires
     mark-word-requires
     enum-told-3
     settle-requires

@@ -13,8 +13,8 @@ mul-lo c = omega (arith, row-most (c .before .pre .0) _ (c .before .pre .1 .0))
 zeros-requires : tie.Need-zeros-requires
 zeros-requires c κs = search needs
 
-note-roots-requires : tie.Need-note-roots-requires
-note-roots-requires c κs =
+note-anchors-requires : tie.Need-note-anchors-requires
+note-anchors-requires c κs =
     let pre = c .before .before .before .before .pre in
     (pre .0, noted-none _ _ (pre .1 .1) (c .before .before .zeros .ensures) (row-most (pre .0) _ (pre .1 .0)))
 
@@ -33,7 +33,7 @@ returns : tie.Need-returns
 returns c =
     let d = c .before .before .before in
     let pre = start d .pre in
-    all-kept (pre .0) _ (pre .1 .0) (pre .1 .1) (d .before .before .before .note-roots .ensures .0) (d .note-counted .ensures .0) (c .spread .ensures)
+    all-kept (pre .0) _ (pre .1 .0) (pre .1 .1) (d .before .before .before .note-anchors .ensures .0) (d .note-counted .ensures .0) (c .spread .ensures)
 
 pub keep-spec : {M : Type 1} → statement M
 keep-spec =
@@ -41,7 +41,7 @@ keep-spec =
     (tie.spec
     mul-lo
     zeros-requires
-    note-roots-requires
+    note-anchors-requires
     note-counted-requires
     spread-requires
     returns)

@@ -18,7 +18,7 @@ start c = c .before .before
 abbrev begun : tie.After-list → tie.After-zeros
 begun c = c .before .before .before
 
-abbrev noted : tie.After-spread → tie.After-note-roots
+abbrev noted : tie.After-spread → tie.After-note-anchors
 noted c = c .before .before .before
 
 -- the place is one of as many as there can be
@@ -37,13 +37,13 @@ zeros-requires c κs = search needs
 zeros-requires-2 : tie.Need-zeros-requires-2
 zeros-requires-2 c κs = search needs
 
-note-roots-requires : tie.Need-note-roots-requires
-note-roots-requires c κs =
+note-anchors-requires : tie.Need-note-anchors-requires
+note-anchors-requires c κs =
     let w = start (begun c .before) .pre .0 in
     (w, noted-none _ _ (begun c .zeros .ensures) (c .before .before .zeros2 .ensures) (omega (arith, places w)))
 
 spread-requires : tie.Need-spread-requires
-spread-requires c κs = let d = c .before .before in (start (begun (d .before) .before) .pre .0, (omega arith, d .note-roots .ensures .1 .noted))
+spread-requires c κs = let d = c .before .before in (start (begun (d .before) .before) .pre .0, (omega arith, d .note-anchors .ensures .1 .noted))
 
 mul-if1 : tie.Need-mul-if1
 mul-if1 c = omega (arith, small (begun (noted c .before) .before))
@@ -55,13 +55,13 @@ returns : tie.Need-returns
 returns c =
     let d = noted (c .before) in
     let z = begun (d .before) in
-    answer-so (start (z .before) .pre .0) (z .zeros .ensures) (d .note-roots .ensures .0) (c .before .spread .ensures) _ (c .if1 .taken) ∙ ap (ask _ _ _) (z .before .place .ensures)
+    answer-so (start (z .before) .pre .0) (z .zeros .ensures) (d .note-anchors .ensures .0) (c .before .spread .ensures) _ (c .if1 .taken) ∙ ap (ask _ _ _) (z .before .place .ensures)
 
 returns-2 : tie.Need-returns-2
 returns-2 c =
     let d = noted (c .before) in
     let z = begun (d .before) in
-    answer-not (start (z .before) .pre .0) (z .zeros .ensures) (d .note-roots .ensures .0) (c .before .spread .ensures) _ (c .if1 .left) ∙ ap (ask _ _ _) (z .before .place .ensures)
+    answer-not (start (z .before) .pre .0) (z .zeros .ensures) (d .note-anchors .ensures .0) (c .before .spread .ensures) _ (c .if1 .left) ∙ ap (ask _ _ _) (z .before .place .ensures)
 
 pub ask-spec : {M : Type 1} → statement M
 ask-spec =
@@ -71,7 +71,7 @@ ask-spec =
     mul-all
     zeros-requires
     zeros-requires-2
-    note-roots-requires
+    note-anchors-requires
     spread-requires
     mul-if1
     array-read-if1

@@ -1,5 +1,5 @@
 -- `questions::read` meets its contract. Assumes nothing.
-use Rattle.questions.proofs.Naming.{made}
+use Rattle.questions.proofs.Reading.{made}
 use Rattle.image.proofs.Within.{places, has-word}
 use Rattle.model.specs.Image.{payload, field, Has}
 use Rattle.model.specs.Questions.{readOf}

@@ -1,6 +1,6 @@
 -- `soundness::test` meets its contract. Assumes nothing.
-use Rattle.model.specs.Sound.{rootOk}
-use Rattle.model.specs.Image.{root, flag, state}
+use Rattle.model.specs.Sound.{anchorOk}
+use Rattle.model.specs.Image.{anchor, flag, state}
 use Rattle.model.proofs.Keys.{has}
 use mathlib.Core.Path.{sym}
 use borrow.Author.Needs.{needs}
@@ -10,8 +10,8 @@ use Rattle.soundness.proofs.test.Tie as tie
 enum-told : tie.Need-enum-told
 enum-told c = search needs
 
-root-at-requires : tie.Need-root-at-requires
-root-at-requires c κs = has _ _ (c .before .before .before .pre .0 .long) (root (c .before .before .before .args .i)) (rw (c .enum-told .given .1) at (c .before .before .before .pre .1))
+anchor-at-requires : tie.Need-anchor-at-requires
+anchor-at-requires c κs = has _ _ (c .before .before .before .pre .0 .long) (anchor (c .before .before .before .args .i)) (rw (c .enum-told .given .1) at (c .before .before .before .pre .1))
 
 ref-ok-requires : tie.Need-ref-ok-requires
 ref-ok-requires c κs = search needs
@@ -35,8 +35,8 @@ unmarked-requires : tie.Need-unmarked-requires
 unmarked-requires c κs = has _ _ (c .before .before .before .pre .0 .long) (state (c .before .before .before .args .i)) (rw (c .enum-told4 .given .1) at (c .before .before .before .pre .1))
 
 returns : tie.Need-returns
-unfolding rootOk
-returns c = rw (c .before .before .enum-told .given .1) (c .ref-ok .ensures (root (c .before .before .before .before .before .args .i)) (sym (c .before .root-at .ensures)))
+unfolding anchorOk
+returns c = rw (c .before .before .enum-told .given .1) (c .ref-ok .ensures (anchor (c .before .before .before .before .before .args .i)) (sym (c .before .anchor-at .ensures)))
 
 returns-2 : tie.Need-returns-2
 returns-2 c = rw (c .before .enum-told2 .given .1) (c .flag-ok .ensures)
@@ -52,7 +52,7 @@ test-spec =
     tie.close
     (tie.spec
     enum-told
-    root-at-requires
+    anchor-at-requires
     ref-ok-requires
     enum-told-2
     flag-ok-requires

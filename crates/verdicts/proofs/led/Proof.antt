@@ -1,5 +1,5 @@
 -- `verdicts::led` meets its contract. Assumes nothing.
-use Rattle.verdicts.proofs.Searches.{led-root, led-slot, led-so}
+use Rattle.verdicts.proofs.Searches.{led-anchor, led-slot, led-so}
 use Rattle.image.proofs.Within.{places}
 use native.Mathlib.Omega.{arith}
 use mathlib.Core.Path.{sym}
@@ -11,7 +11,7 @@ first-requires : tie.Need-first-requires
 first-requires c κs = search needs
 
 returns : tie.Need-returns
-returns c = sym (led-root _ _ _ (search needs))
+returns c = sym (led-anchor _ _ _ (search needs))
 
 mul-n : tie.Need-mul-n
 mul-n c = omega (arith, places (c .before .before .before .pre))

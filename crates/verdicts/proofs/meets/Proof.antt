@@ -1,7 +1,7 @@
 -- `verdicts::meets` meets its contract. Assumes nothing.
 use Rattle.kinds.specs.Names.{roots}
 use Rattle.verdicts.specs.Searches.{astray, meets}
-use Rattle.model.specs.Image.{root, flag, anchors, a-root}
+use Rattle.model.specs.Image.{anchor, flag, anchors, an-anchor}
 use Rattle.image.proofs.Within.{has-word}
 use native.Mathlib.Omega.{arith}
 use Prim.Native.Nat.{_<_}
@@ -23,12 +23,12 @@ in-anchors c = rw (c .enum-told3 .given .1) at (c .before .before .before .pre .
 enum-told : tie.Need-enum-told
 enum-told c = search needs
 
-root-at-requires : tie.Need-root-at-requires
-root-at-requires c κs = has-word _ _ _ (c .before .before .before .pre .0) (root (c .before .before .before .args .i)) (in-roots c)
+anchor-at-requires : tie.Need-anchor-at-requires
+anchor-at-requires c κs = has-word _ _ _ (c .before .before .before .pre .0) (anchor (c .before .before .before .args .i)) (omega (arith, in-roots c))
 
 returns : tie.Need-returns
 unfolding meets
-returns c = rw (c .before .before .enum-told .given .1, ← (c .before .root-at .ensures), eq-eqb _ _ (c .if1 .taken))
+returns c = rw (c .before .before .enum-told .given .1, ← (c .before .anchor-at .ensures), eq-eqb _ _ (c .if1 .taken))
 
 enum-told-2 : tie.Need-enum-told-2
 enum-told-2 c = search needs
@@ -45,13 +45,13 @@ returns-2 c = rw (c .before .before .enum-told2 .given .1, ← (c .before .flag-
 enum-told-3 : tie.Need-enum-told-3
 enum-told-3 c = search needs
 
-root-at-requires-2 : tie.Need-root-at-requires-2
-root-at-requires-2 c κs = has-word _ _ _ (c .before .before .before .pre .0) (root (c .before .before .before .args .i)) (in-anchors c)
+anchor-at-requires-2 : tie.Need-anchor-at-requires-2
+anchor-at-requires-2 c κs = has-word _ _ _ (c .before .before .before .pre .0) (anchor (c .before .before .before .args .i)) (in-anchors c)
 
 astray-requires : tie.Need-astray-requires
 astray-requires c κs =
     let h = c .before .before .before .before .pre .0 in
-    (h, rw (c .root-at2 .ensures) (h .refs (root (c .before .before .before .before .args .i)) (a-root (in-anchors (c .before)))))
+    (h, rw (c .anchor-at2 .ensures) (h .refs (anchor (c .before .before .before .before .args .i)) (an-anchor (in-anchors (c .before)))))
 
 enum-told-4 : tie.Need-enum-told-4
 enum-told-4 c = search needs
@@ -61,7 +61,7 @@ strays-requires c κs = (c .before .before .before .pre .0, rw (c .enum-told4 .g
 
 returns-3 : tie.Need-returns-3
 unfolding meets
-returns-3 c = rw (c .before .before .enum-told .given .1, ← (c .before .root-at .ensures), ne-eqb _ _ (c .if1 .left))
+returns-3 c = rw (c .before .before .enum-told .given .1, ← (c .before .anchor-at .ensures), ne-eqb _ _ (c .if1 .left))
 
 returns-4 : tie.Need-returns-4
 unfolding meets
@@ -69,7 +69,7 @@ returns-4 c = rw (c .before .before .enum-told2 .given .1, ← (c .before .flag-
 
 returns-5 : tie.Need-returns-5
 unfolding meets astray
-returns-5 c = rw (c .before .before .enum-told3 .given .1, ← (c .before .root-at2 .ensures)) (c .astray .ensures)
+returns-5 c = rw (c .before .before .enum-told3 .given .1, ← (c .before .anchor-at2 .ensures)) (c .astray .ensures)
 
 returns-6 : tie.Need-returns-6
 unfolding meets
@@ -80,13 +80,13 @@ meets-spec =
     tie.close
     (tie.spec
     enum-told
-    root-at-requires
+    anchor-at-requires
     returns
     enum-told-2
     flag-at-requires
     returns-2
     enum-told-3
-    root-at-requires-2
+    anchor-at-requires-2
     astray-requires
     enum-told-4
     strays-requires

@@ -52,6 +52,18 @@ enum-known-a-2 c = search needs
 local-requires : tie.Need-local-requires
 local-requires c κs = search needs
 
+enum-known-a-3 : tie.Need-enum-known-a-3
+enum-known-a-3 c = search needs
+
+hold-requires : tie.Need-hold-requires
+hold-requires c κs = search needs
+
+enum-known-a-4 : tie.Need-enum-known-a-4
+enum-known-a-4 c = search needs
+
+drop-requires : tie.Need-drop-requires
+drop-requires c κs = search needs
+
 enum-known-x-5 : tie.Need-enum-known-x-5
 enum-known-x-5 c = search needs
 
@@ -131,10 +143,28 @@ same-length-15 : tie.Need-same-length-15
 same-length-15 c = search needs
 
 returns-8 : tie.Need-returns-8
-returns-8 c = let r = c .before .before in rw (r .before .before .before .before .x5 .given .1) (r .recover .ensures)
+returns-8 c = let d = c .before .before .before .before in let e = d .before .before .before .before in rw (e .before .before .before .x4 .given .1, e .a3 .given .1) (ap (answered Done) (d .hold .ensures))
+
+same-length-16 : tie.Need-same-length-16
+same-length-16 c = search needs
+
+same-length-17 : tie.Need-same-length-17
+same-length-17 c = search needs
 
 returns-9 : tie.Need-returns-9
-returns-9 c = rw (c .before .before .x6 .given .1, c .seen .ensures)
+returns-9 c = let d = c .before .before .before .before in let e = d .before .before .before .before in rw (e .before .before .before .x4 .given .1, e .a4 .given .1) (ap (answered Done) (d .drop .ensures))
+
+same-length-18 : tie.Need-same-length-18
+same-length-18 c = search needs
+
+same-length-19 : tie.Need-same-length-19
+same-length-19 c = search needs
+
+returns-10 : tie.Need-returns-10
+returns-10 c = let r = c .before .before in rw (r .before .before .before .before .x5 .given .1) (r .recover .ensures)
+
+returns-11 : tie.Need-returns-11
+returns-11 c = rw (c .before .before .x6 .given .1, c .seen .ensures)
 
 pub deed-spec : {M : Type 1} → statement M
 deed-spec =
@@ -155,6 +185,10 @@ deed-spec =
     close-requires
     enum-known-a-2
     local-requires
+    enum-known-a-3
+    hold-requires
+    enum-known-a-4
+    drop-requires
     enum-known-x-5
     recover-requires
     enum-known-x-6
@@ -182,4 +216,10 @@ deed-spec =
     same-length-14
     same-length-15
     returns-8
-    returns-9)
+    same-length-16
+    same-length-17
+    returns-9
+    same-length-18
+    same-length-19
+    returns-10
+    returns-11)
