@@ -31,7 +31,7 @@ use Rattle.catalogue.specs.declared.Reading.{Reading}
 use Rattle.catalogue.specs.Call.{judgeObject, readingOf}
 use Rattle.promises.specs.Calls.{single-call, actOf, calling}
 use Rattle.promises.specs.Effects.{Present}
-use Rattle.promises.specs.Sessions.{HeldSince, held, called, refused, unformatted, LedBy, InSight, Holds}
+use Rattle.promises.specs.Sessions.{HeldSince, held, called, refused, unformatted, InSight, Holds}
 use Rattle.promises.proofs.Calling.{call-judged, call-accepted, refused-leaves, refused-format-leaves}
 use Rattle.promises.proofs.Effects.{ask-yes}
 use Rattle.promises.proofs.Headed.{Headed, call-leaves}

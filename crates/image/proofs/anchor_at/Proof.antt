@@ -1,5 +1,4 @@
 -- `image::anchor_at` meets its contract. Assumes nothing.
-use mathlib.Core.Path.{refl}
 use native.Mathlib.Omega.{arith}
 use Rattle.model.specs.Image.{Has, get}
 use Rattle.model.proofs.Keys.{anchor-above}

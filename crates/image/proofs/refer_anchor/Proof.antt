@@ -1,5 +1,4 @@
 -- `image::refer_anchor` meets its contract. Assumes nothing.
-use mathlib.Core.Path.{refl}
 use native.Mathlib.Omega.{arith}
 use Rattle.model.specs.Image.{put, Has, recount, refer}
 use Rattle.model.proofs.Keys.{anchor-above}
