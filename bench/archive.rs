@@ -1,6 +1,6 @@
 //! What is timed: ordinary Rust, the proved archive as it is now, and (with --cfg before) the archive of an earlier commit, whose functions
 //! are renamed. All through one trait, so that none of them is inlined.
-use crate::catalogue::{self, Closed, Freed, Name, Object, Operation, Outlist, Refusal};
+use crate::catalogue::{self, Closed, Fault, Freed, Name, Object, Operation, Outlist, Refusal};
 
 /// A transaction as Rust takes it, and as the archive does: six words an operation.
 pub struct Transaction {
@@ -36,7 +36,7 @@ pub trait Side {
     fn local(&self, img: &mut [u32], t: u32, log: &mut [u8], at: usize) -> Result<Freed, Refusal>;
     fn hold(&self, img: &mut [u32], h: u32, n: Name, log: &mut [u8], at: usize) -> Result<usize, Refusal>;
     fn drop(&self, img: &mut [u32], h: u32, log: &mut [u8], at: usize) -> Result<usize, Refusal>;
-    fn recover(&self, img: &mut [u32], log: &[u8]) -> Result<usize, Refusal>;
+    fn recover(&self, img: &mut [u32], log: &[u8]) -> Result<usize, Fault>;
     fn read(&self, img: &[u32], n: Name) -> Result<Object, Refusal>;
     fn ask(&self, img: &[u32], n: Name) -> Result<bool, Refusal>;
     fn outlist(&self, img: &[u32], t: u32) -> Result<Outlist, Refusal>;
@@ -72,7 +72,7 @@ impl Side for Rust {
     fn drop(&self, img: &mut [u32], h: u32, log: &mut [u8], at: usize) -> Result<usize, Refusal> {
         catalogue::drop(img, h, log, at)
     }
-    fn recover(&self, img: &mut [u32], log: &[u8]) -> Result<usize, Refusal> {
+    fn recover(&self, img: &mut [u32], log: &[u8]) -> Result<usize, Fault> {
         catalogue::recover(img, log)
     }
     fn read(&self, img: &[u32], n: Name) -> Result<Object, Refusal> {
@@ -101,7 +101,7 @@ pub struct Archive {
     local: unsafe extern "C" fn(Words, usize, u32, Bytes, usize, usize, Out<usize>, Out<usize>, Out<usize>) -> u32,
     hold: unsafe extern "C" fn(Words, usize, u32, u32, u32, Bytes, usize, usize, Out<usize>, Out<usize>) -> u32,
     drop: unsafe extern "C" fn(Words, usize, u32, Bytes, usize, usize, Out<usize>, Out<usize>) -> u32,
-    recover: unsafe extern "C" fn(Words, usize, *const u8, usize, Out<usize>, Out<usize>) -> u32,
+    recover: unsafe extern "C" fn(Words, usize, *const u8, usize, Out<usize>, Out<usize>, Out<usize>) -> u32,
     read: unsafe extern "C" fn(*const u32, usize, u32, u32, Out<u32>, Out<[u32; 4]>) -> u32,
     ask: unsafe extern "C" fn(*const u32, usize, u32, u32, Out<bool>) -> u32,
     outlist: unsafe extern "C" fn(*const u32, usize, u32, Out<usize>, Out<[u32; 256]>) -> u32,
@@ -129,7 +129,7 @@ macro_rules! archive {
             fn $local(i: Words, w: usize, t: u32, l: Bytes, b: usize, at: usize, n: Out<usize>, f: Out<usize>, x: Out<usize>) -> u32;
             fn $hold(i: Words, w: usize, h: u32, p: u32, s: u32, l: Bytes, b: usize, at: usize, n: Out<usize>, x: Out<usize>) -> u32;
             fn $drop(i: Words, w: usize, h: u32, l: Bytes, b: usize, at: usize, n: Out<usize>, x: Out<usize>) -> u32;
-            fn $recover(i: Words, w: usize, l: *const u8, b: usize, n: Out<usize>, x: Out<usize>) -> u32;
+            fn $recover(i: Words, w: usize, l: *const u8, b: usize, n: Out<usize>, x: Out<usize>, y: Out<usize>) -> u32;
             fn $read(i: *const u32, w: usize, p: u32, s: u32, v: Out<u32>, f: Out<[u32; 4]>) -> u32;
             fn $ask(i: *const u32, w: usize, p: u32, s: u32, y: Out<bool>) -> u32;
             fn $outlist(i: *const u32, w: usize, t: u32, h: Out<usize>, n: Out<[u32; 256]>) -> u32;
@@ -159,11 +159,31 @@ const NOW: Archive = archive!(
 );
 
 #[cfg(before)]
-const BEFORE: Archive = archive!(
-    "before",
-    before_heidrunok_format before_heidrunok_commit before_heidrunok_open before_heidrunok_trace before_heidrunok_close before_heidrunok_local
-    before_heidrunok_hold before_heidrunok_drop before_heidrunok_recover before_heidrunok_read before_heidrunok_ask before_heidrunok_outlist
-);
+const BEFORE: Archive = Archive {
+    #[cfg(w4)]
+    recover: recover_w4,
+    ..archive!(
+        "before",
+        before_heidrunok_format before_heidrunok_commit before_heidrunok_open before_heidrunok_trace before_heidrunok_close
+        before_heidrunok_local before_heidrunok_hold before_heidrunok_drop before_heidrunok_recover before_heidrunok_read
+        before_heidrunok_ask before_heidrunok_outlist
+    )
+};
+
+/// Recovery by an archive of W4, which says no byte: where it refuses, ordinary Rust's byte is put there, so that all else is compared.
+#[cfg(w4)]
+unsafe extern "C" fn recover_w4(i: Words, w: usize, l: *const u8, b: usize, n: Out<usize>, x: Out<usize>, y: Out<usize>) -> u32 {
+    extern "C" {
+        #[allow(clashing_extern_declarations)]
+        fn before_heidrunok_recover(i: Words, w: usize, l: *const u8, b: usize, n: Out<usize>, x: Out<usize>) -> u32;
+    }
+    let number = before_heidrunok_recover(i, w, l, b, n, x);
+    if number != 0 {
+        let log = std::slice::from_raw_parts(l, b);
+        *y = catalogue::recover(&mut vec![0; w], log).map_or_else(|f| f.byte, |_| 0);
+    }
+    number
+}
 
 /// Rust first: what the others are held to.
 pub fn sides() -> Vec<&'static dyn Side> {
@@ -228,10 +248,10 @@ impl Side for Archive {
         let number = unsafe { (self.drop)(img.as_mut_ptr(), img.len(), h, log.as_mut_ptr(), log.len(), at, &mut n, &mut x) };
         told(number, x, n)
     }
-    fn recover(&self, img: &mut [u32], log: &[u8]) -> Result<usize, Refusal> {
-        let (mut n, mut x) = (0, 0);
-        let number = unsafe { (self.recover)(img.as_mut_ptr(), img.len(), log.as_ptr(), log.len(), &mut n, &mut x) };
-        told(number, x, n)
+    fn recover(&self, img: &mut [u32], log: &[u8]) -> Result<usize, Fault> {
+        let (mut n, mut line, mut byte) = (0, 0, usize::MAX); // a byte that is not written differs from every answer
+        let number = unsafe { (self.recover)(img.as_mut_ptr(), img.len(), log.as_ptr(), log.len(), &mut n, &mut line, &mut byte) };
+        told(number, line, n).map_err(|_| Fault { number, line, byte })
     }
     fn read(&self, img: &[u32], n: Name) -> Result<Object, Refusal> {
         let (mut payload, mut fields) = (0, [0; 4]);

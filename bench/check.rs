@@ -1,6 +1,6 @@
 //! All sides give the same answers: on the report's logs, on cut and altered ones, and call by call on random heaps.
 use crate::archive::{sides, Transaction};
-use crate::catalogue::{Name, Operation, Refusal, FLAGS, FRONT, STRIDE};
+use crate::catalogue::{Fault, Name, Operation, Refusal, FLAGS, FRONT, STRIDE};
 use crate::heaps::{self, Random};
 use std::fmt::Debug;
 
@@ -43,7 +43,7 @@ impl Lent {
 }
 
 /// All recover a log into words of a length, which hold something else on each side.
-fn recovered(log: &[u8], words: usize) -> (Result<usize, Refusal>, Vec<u32>) {
+fn recovered(log: &[u8], words: usize) -> (Result<usize, Fault>, Vec<u32>) {
     let mut lent = Lent::new(words, 0);
     for (k, img) in lent.images.iter_mut().enumerate() {
         img.fill(7 + k as u32);
@@ -73,7 +73,7 @@ fn report(log: &[u8]) -> String {
     }
     let (answer, img) = recovered(log, words_of(log));
     match answer {
-        Err(r) => format!("answer {}\nline {}\n", r.number, r.extra),
+        Err(f) => format!("answer {}\nline {}\nbyte {}\n", f.number, f.line, f.byte),
         Ok(kept) => {
             let s = img[1] as usize;
             let objects = img[FRONT..].chunks(STRIDE).enumerate().filter(|(_, slot)| slot[0] != 0);
@@ -99,6 +99,7 @@ fn altered(r: &mut Random, log: &[u8]) -> Vec<u8> {
 pub fn reports(folder: &str) {
     let mut r = Random::new(5);
     let (mut logs, mut others) = (0, 0);
+    let mut bytes = [[0usize; 21]; 2]; // of refusals 3 and 4
     for entry in std::fs::read_dir(folder).unwrap() {
         let path = entry.unwrap().path();
         if path.extension().map_or(true, |e| e != "log") {
@@ -112,11 +113,14 @@ pub fn reports(folder: &str) {
             let _ = recovered(&log, words);
         }
         for _ in 0..if log.len() > 32768 { 0 } else { 200 } {
-            let _ = recovered(&altered(&mut r, &log), words_of(&log));
+            if let (Err(Fault { number: n @ 3..=4, byte, .. }), _) = recovered(&altered(&mut r, &log), words_of(&log)) {
+                bytes[n as usize - 3][byte] += 1;
+            }
             others += 1;
         }
     }
     println!("recovery: {logs} logs of {folder} agree with their reports and in every word, {others} cut or altered ones agree");
+    println!("of these refused with 3 at bytes 0 to 20: {:?}, with 4: {:?}", bytes[0], bytes[1]);
 }
 
 /// Any operation, its numbers sometimes too large.

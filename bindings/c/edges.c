@@ -1,4 +1,4 @@
-/* What only C can do: zeroed operations, words and places of any kind. Prints each check that fails; its status is 0 where none does. */
+/* What only C can do: zeroed operations, words and places of any kind; and where in a line a recovery is refused. Prints each check that fails; its status is 0 where none does. */
 #include "heidrunok.h"
 #include <stdio.h>
 #include <string.h>
@@ -70,6 +70,37 @@ static void handles(void) {
     CHECK(memcmp(log_buffer + 11, "drop\t31\n", 8) == 0 && memcmp(was, img, sizeof img) == 0);
 }
 
+/* A refused recovery of this text: its number, line and byte, nothing kept, and zeros in the image. */
+static bool fails(const char *text, uint32_t number, size_t line, size_t byte) {
+    size_t length = 99, at_line = 99, at_byte = 99;
+    memcpy(log_was, log_buffer, sizeof log_buffer);
+    memset(was, 0, sizeof was);
+    return heidrunok_recover(img, WORDS, (const uint8_t *)text, strlen(text), &length, &at_line, &at_byte) == number && length == 0 && at_line == line &&
+           at_byte == byte && kept();
+}
+
+/* Where in the line: 3 asks for a heading, 4 for any line, or for any other than a heading where the line is the last and has no end. */
+static void faults(void) {
+    size_t length = 99, line = 99, byte = 99;
+    static const char accepted[] = "heap\t3\t2\t4\nunroot\t0\nend\t1\nh";
+    CHECK(fails("", 3, 1, 0));
+    CHECK(fails("\n", 3, 1, 0));
+    CHECK(fails("heap\t3\t2\t4", 3, 1, 10));
+    CHECK(fails("heap\t4\t2\t4\n", 3, 1, 5));
+    CHECK(fails("hold\t0\t0\t0\n", 3, 1, 1));
+    CHECK(fails("heap\t3\t2\t4\nset\t0\t0\t0\t4294967295\t0\n", 4, 2, 18));
+    CHECK(fails("heap\t3\t2\t4\nnew\t15\t127\t4294967295\n", 4, 2, 20));
+    CHECK(fails("heap\t3\t2\t4\nend\t01\n", 4, 2, 5));
+    CHECK(fails("heap\t3\t2\t4\nend\t4294967296\n", 4, 2, 13));
+    CHECK(fails("heap\t3\t2\t4\nhe\n", 4, 2, 2));
+    CHECK(fails("heap\t3\t2\t4\nhe", 4, 2, 1));
+    CHECK(fails("heap\t3\t0\t4\nxyz\n", 2, 1, 0));
+    CHECK(fails("heap\t3\t2\t4\nend\t1\n", 5, 2, 0));
+    CHECK(fails("heap\t3\t2\t4\nhold\t0\t0\t0\nxyz", 9, 2, 0));
+    CHECK(heidrunok_recover(img, WORDS, (const uint8_t *)accepted, sizeof accepted - 1, &length, &line, &byte) == 0);
+    CHECK(length == 26 && line == 0 && byte == 0);
+}
+
 /* Words of no sound image: every call but format and recover says 1, and the questions answer zeros. */
 static void unsound(void) {
     size_t length = 99, extra = 99, freed = 99, held = 99;
@@ -93,9 +124,7 @@ static void unsound(void) {
     CHECK(heidrunok_ask(img, WORDS, 0, 0, &yes) == 1 && !yes);
     CHECK(heidrunok_outlist(img, WORDS, 0, &held, names) == 1 && held == 0 && memcmp(names, zeros, sizeof names) == 0);
     CHECK(kept());
-    CHECK(heidrunok_recover(img, WORDS, log_buffer, 0, &length, &extra) == 3 && length == 0 && extra == 1);
-    memset(was, 0, sizeof was);
-    CHECK(kept());
+    CHECK(fails("", 3, 1, 0));
 }
 
 int main(void) {
@@ -105,6 +134,7 @@ int main(void) {
     operations();
     places();
     handles();
+    faults();
     unsound();
     return failed != 0;
 }

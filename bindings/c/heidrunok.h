@@ -2,8 +2,8 @@
  *
  * Every call returns 0 where it is accepted, else the number of the refusal (1 to 17; heidrunok_refusal says it in words), and writes what it
  * answers through its last pointers. Refused, it writes zeros there, but for *extra: the position of the operation, counted from 1 (commit: 7,
- * 8, 9), or the lowest partition that is not clean (close: 14), else 0; recovery says the line. A refused call leaves image and log as they
- * were; a refused recovery leaves zeros in the image.
+ * 8, 9), or the lowest partition that is not clean (close: 14), else 0; recovery says the line, and the byte within it. A refused call leaves
+ * image and log as they were; a refused recovery leaves zeros in the image.
  *
  * A call that is logged writes its record into the log buffer from byte `at` on and answers the record's length: store these bytes, and make
  * the next such call at at + length.
@@ -84,8 +84,11 @@ uint32_t heidrunok_hold(uint32_t *img, size_t words, uint32_t handle, uint32_t p
 /* the handle holds nothing from now on, also where it held nothing before; frees nothing itself */
 uint32_t heidrunok_drop(uint32_t *img, size_t words, uint32_t handle, uint8_t *log, size_t bytes, size_t at, size_t *length,
                         size_t *extra);
-/* the kept length, where the log is to be cut and the next record goes; refused, the line */
-uint32_t heidrunok_recover(uint32_t *img, size_t words, const uint8_t *log, size_t bytes, size_t *kept, size_t *line);
+/* the kept length, where the log is to be cut and the next record goes; refused, the line, counted from 1, and with 3 and 4 the byte: the place
+ * within that line, counted from 0, of the first byte that no line with a shape and the same start has there, or the line's length where it is
+ * only too short or not ended (at most 20; with any other number 0). With 3 the line is to be a heading; an end that is torn is to be any other
+ * line, a complete line any at all */
+uint32_t heidrunok_recover(uint32_t *img, size_t words, const uint8_t *log, size_t bytes, size_t *kept, size_t *line, size_t *byte);
 /* fields[k] is 0 for nothing, or the name 64 q + t + 1 of the object (q, t) */
 uint32_t heidrunok_read(const uint32_t *img, size_t words, uint32_t p, uint32_t s, uint32_t *payload, uint32_t fields[4]);
 /* whether a root or handle leads to the object (p, s) */

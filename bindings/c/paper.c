@@ -115,8 +115,11 @@ static void outlist(const char *what, uint32_t partition) {
 static uint32_t again[WORDS];
 
 static void recover(const char *what, size_t bytes) {
-    uint32_t number = heidrunok_recover(again, WORDS, log_buffer, bytes, &length, &extra);
-    if (number != 0) {
+    size_t byte;
+    uint32_t number = heidrunok_recover(again, WORDS, log_buffer, bytes, &length, &extra, &byte);
+    if (number == 3 || number == 4) {
+        printf("%s: refused %u, line %zu, byte %zu: %s\n", what, (unsigned)number, extra, byte, heidrunok_refusal(number));
+    } else if (number != 0) {
         refused(what, number, "line");
     } else {
         printf("%s: kept %zu\n", what, length);

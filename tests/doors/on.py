@@ -1,9 +1,11 @@
 #!/usr/bin/env python3
-"""Runs a command on a standard input that a plain shell cannot make; its standard output, standard error and status are handed on.
+"""Runs a command on a standard input, or a standard error, that a plain shell cannot make; its standard output, standard error and status
+are handed on.
 
 on.py terminal LINES COMMAND..   a terminal at which the file LINES is typed, a line at each prompt `> `, then the end of input. What a line is
                                  answered must stand on standard output before the next prompt; else the status is 99.
 on.py screen COMMAND..           a terminal at which nothing is typed.
+on.py watched COMMAND..          standard error is a terminal, standard input the caller's.
 on.py socket FILE COMMAND..      a socket that gives the file's bytes and ends.
 on.py broken FILE N COMMAND..    an input that gives the file's first N bytes, and then a read that fails.
 """
@@ -84,6 +86,23 @@ def screen(*command):
     finish(process)
 
 
+def watched(*command):
+    master, slave = pty.openpty()
+    tty.setraw(slave)
+    process = subprocess.Popen(command, stdout=subprocess.PIPE, stderr=slave)
+    os.close(slave)
+    err = b""
+    try:
+        while data := os.read(master, 65536):
+            err += data
+    except OSError:  # EIO: nobody has the terminal open any more
+        pass
+    out = process.communicate(timeout=WAIT)[0]
+    sys.stdout.buffer.write(out)
+    sys.stderr.buffer.write(err)
+    sys.exit(process.returncode)
+
+
 def socketed(path, *command):
     ours, theirs = socket.socketpair()
     ours.sendall(open(path, "rb").read())
@@ -100,4 +119,4 @@ def broken(path, n, *command):
     finish(start(master, command))
 
 
-{"terminal": terminal, "screen": screen, "socket": socketed, "broken": broken}[sys.argv[1]](*sys.argv[2:])
+{"terminal": terminal, "screen": screen, "watched": watched, "socket": socketed, "broken": broken}[sys.argv[1]](*sys.argv[2:])

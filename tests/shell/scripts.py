@@ -1,8 +1,8 @@
 #!/usr/bin/env python3
-"""Makes the scripts that are not written by hand (paper, stars, local, sessions, limits, logs, random-..), and from model.py the .answers of
-every script here but those of w4-..: they were made elsewhere, and model.py gives the same. The scripts w1-.. and w2-.. were made elsewhere
-too, for an image without handles: their images have W4's 32 words more, so that their digests are the model's; every other answer is as it
-came.
+"""Makes the scripts that are not written by hand (paper, stars, local, sessions, limits, logs, faults, random-..), and from model.py the
+.answers of every script here but those of w5-..: they were made elsewhere, and model.py gives the same. The scripts w1-.., w2-.. and w4-..
+were made elsewhere too, before a refused recovery had its byte, and those of w1-.. and w2-.. for an image without handles: their images have
+W4's 32 words more, so that their digests are the model's; every other answer is as it came.
 
 scripts.py            makes them all anew
 scripts.py SEED       writes one random script, for trying more than are stored
@@ -115,6 +115,86 @@ LOGS = [
     ("", "heap\t3\t2\t4\nhold\t4294967295\t0\t9"),
     ("", "heap\t3\t2\t4\nnew\t0\t0\t1\nend\t1\nhold\t7\t0\t0\nnew\t0\t1\t1\ndrop\t4294967295"),
     ("an open phase", "heap\t1\t2\t4\nnew\t0\t0\t1\nroot\t0\t0\t0\nend\t2\nopen\ntrace\t0\nnew\t1\t1\t5\nend\t1\ntra"),
+]
+
+# Lines whose byte is asked for, with what is to be seen: logs as they are, later lines, and tails.
+FIRST = [
+    ("3, only headings: no byte at all, an empty line, too short, unended, the beginning of none", ""),
+    ("", "\n"),
+    ("", "heap\n"),
+    ("", "heap\t3\t2\n"),
+    ("", "heap\t3\t2\t4"),
+    ("", "hea"),
+    ("", "hold\t0\t0\t0\n"),
+    ("", "new\t0"),
+    ("no edition, two digits of one, a leading zero, spaces, CRLF, a mark before the first letter", "heap\t4\t2\t4\n"),
+    ("", "heap\t0"),
+    ("", "heap\t12\t2\t4\n"),
+    ("", "heap\t3\t02\t4\n"),
+    ("", "heap 3 2 4\n"),
+    ("", "heap\t3\t2\t4\r\n"),
+    ("", "\ufeffheap\t3\t2\t4\n"),
+    ("a number too large, a line too long, and one that fits and has a number more", "heap\t3\t4294967296\t4\n"),
+    ("", "heap\t3\t4294967295\t123\n"),
+    ("", "heap\t3\t2\t4\t\n"),
+    ("the later lines are not looked at, nor is the first where it is a heading: 2", "heap\nxyz\n"),
+    ("", "heap\t3\t0\t4\nxyz\n"),
+]
+LATER = [
+    ("4, all lines, headings too: an empty line, too short, a byte too many", ""),
+    ("", "he"),
+    ("", "heap\t2\t2"),
+    ("", "unro"),
+    ("", "set\t0\t0\t0\t0"),
+    ("", "set\t0\t0\t0\t0\t"),
+    ("", "open "),
+    ("", "close\r"),
+    ("", "drop\t0\t"),
+    ("another keyword, from the first letter on that none has there", "hoold\t0\t0\t0"),
+    ("", "heap\t5\t2\t4"),
+    ("", "New\t0\t0\t1"),
+    ("", "locale\t0"),
+    ("", "\0\0\0\0"),
+    ("", "val\t0\t0\t\u00e9"),
+    ("numbers: a leading zero, a sign, a tab for a digit, one too large by its last digit, or by one digit more", "end\t01"),
+    ("", "end\t00000000000000000000"),
+    ("", "trace\t-1"),
+    ("", "new\t\t0\t1"),
+    ("", "end\t4294967296"),
+    ("", "end\t4294967300"),
+    ("", "end\t42949672950"),
+    ("", "end\t9999999999"),
+    ("over 20 bytes: the byte is where no line within 20 goes on so, the digit that leaves no room for the numbers to come", "set\t0\t0\t0\t4294967295\t0"),
+    ("", "set\t4294967295\t0\t0\t0\t0"),
+    ("", "new\t4294967295\t4294967295\t0"),
+    ("", "hold\t4294967295\t42\t42"),
+    ("", "new\t15\t127\t4294967295"),
+    ("", "x" * 300),
+    ("", "end\t1" + " " * 300),
+]
+TAILS = [
+    ("4 in the tail, all lines but headings: the second letter of a heading is no line's there, and its first is", "he"),
+    ("", "heap\t3\t2\t4"),
+    ("", "h"),
+    ("", "x"),
+    ("", "open\t"),
+    ("", "opens"),
+    ("", "end\t01"),
+    ("", "end\t4294967296"),
+    ("", "new\t4294967295\t4294"),
+    ("", "hold\t4294967295\t429"),
+    ("", "unroot\t0 and more than twenty bytes"),
+    ("", "local\t0\r"),
+]
+# Whole logs refused with another number: the byte is 0.
+ELSE = [
+    "heap\t3\t2\t4\nend\t1\n",
+    "heap\t3\t2\t4\nunroot\t0\nend\t2\nxyz",
+    "heap\t3\t2\t4\nunroot\t16\nend\t1\nxyz",
+    "heap\t3\t2\t4\nnew\t0\t0\t1\nnew\t0\t0\t1\nend\t2\n",
+    "heap\t3\t2\t4\nhold\t0\t0\t0\n",
+    "heap\t3\t2\t4\nclose\n",
+    "heap\t3\t2\t4\nopen\n",
 ]
 
 
@@ -307,6 +387,19 @@ def logs():
     return lines + ["show", "# a wrong length is 2 before line 2, and zeros too", "image 124", "word 123 5", "recover 30", "digest", "image 0", "recover 30", "recover 0", "digest"]
 
 
+def faults():
+    """Where in the line a recovery finds the fault."""
+    lines = ["# The byte of a refused recovery: NUMBER LINE BYTE. Each log stands before its recovery.", "image 125", "buffer 500"]
+    front = "heap\t3\t2\t4\nunroot\t0\nend\t1\n"
+    for before, after, cases in (("", "", FIRST), (front, "\n", LATER), (front, "", TAILS)):
+        for remark, body in cases:
+            lines += ["# " + remark] if remark else []
+            lines += given(before + body + after)
+    lines += ["# the line behind a dropped transaction, and one behind another that has no shape", *given(front + "unroot\t0\nunroot\n"), *given(front + "end\t1x\nxyz\n")]
+    lines += ["# 5, 6, 7, 8, 9, 10 and 12: 0, whatever stands behind"]
+    return lines + [line for log in ELSE for line in given(log)] + ["digest"]
+
+
 class Writer:
     """A random script, led by the model: mostly what is accepted, with all kinds of mistakes among it."""
 
@@ -450,9 +543,9 @@ if __name__ == "__main__":
     if len(sys.argv) == 2:
         print(Writer(int(sys.argv[1])).script(), end="")
     else:
-        for make in (paper, stars, local, sessions, limits, logs):
+        for make in (paper, stars, local, sessions, limits, logs, faults):
             (here / (make.__name__ + ".script")).write_text("\n".join(make()) + "\n")
         for seed in range(1, 25):
             (here / ("random-%02d.script" % seed)).write_text(Writer(seed).script())
-        for script in set(here.glob("*.script")) - set(here.glob("w4-*")):
+        for script in set(here.glob("*.script")) - set(here.glob("w5-*")):
             script.with_suffix(".answers").write_bytes(model.play(script.read_bytes()))

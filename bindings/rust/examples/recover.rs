@@ -19,7 +19,7 @@ fn recovered(log: &mut [u8]) -> (bool, String, Option<usize>) {
         Err(refused) => refused,
     };
     let before = match refused.place {
-        Place::Line(line) => line - 1,
+        Place::Line { line, .. } => line - 1,
         _ => 0,
     };
     let good = log.split_inclusive(|&b| b == b'\n').take(before).map(<[u8]>::len).sum();

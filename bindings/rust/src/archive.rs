@@ -106,6 +106,7 @@ mod c {
             bytes: usize,
             kept: *mut usize,
             line: *mut usize,
+            byte: *mut usize,
         ) -> u32;
         pub fn heidrunok_read(
             img: *const u32,
@@ -285,14 +286,22 @@ pub fn drop(img: &mut [u32], handle: u32, log: &mut [u8], at: usize) -> Told {
     told
 }
 
-/// The length is what is kept, the extra answer the line.
-pub fn recover(img: &mut [u32], log: &[u8]) -> Told {
-    let mut told = Told::default();
-    // SAFETY: a slice lent to us alone and one that is only read, each with its length, and two of our own numbers.
+/// The length is what is kept, the extra answer the line; and the byte within it.
+pub fn recover(img: &mut [u32], log: &[u8]) -> (Told, usize) {
+    let (mut told, mut byte) = (Told::default(), 0);
+    // SAFETY: a slice lent to us alone and one that is only read, each with its length, and three of our own numbers.
     told.number = unsafe {
-        c::heidrunok_recover(img.as_mut_ptr(), img.len(), log.as_ptr(), log.len(), &mut told.length, &mut told.extra)
+        c::heidrunok_recover(
+            img.as_mut_ptr(),
+            img.len(),
+            log.as_ptr(),
+            log.len(),
+            &mut told.length,
+            &mut told.extra,
+            &mut byte,
+        )
     };
-    told
+    (told, byte)
 }
 
 /// The number, the payload and the words of the fields.

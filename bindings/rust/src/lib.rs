@@ -220,13 +220,13 @@ impl<'a> Catalogue<'a> {
     /// disk there, and go on. The image wants as many words as [`words_for`] says.
     ///
     /// # Errors
-    /// The refusal with its line: `image` is then all zeros. Also `Room` where `log` has fewer than `written` bytes.
+    /// The refusal with its line and byte: `image` is then all zeros. Also `Room` where `log` has fewer than `written` bytes.
     pub fn recover(image: &'a mut [u32], log: &'a mut [u8], written: usize) -> Result<Self> {
         let Some(bytes) = log.get(..written) else {
             return Err(Refused { refusal: Refusal::Room, place: Place::Call });
         };
-        let told = archive::recover(image, bytes);
-        accept(told.number, Place::Line(told.extra))?;
+        let (told, byte) = archive::recover(image, bytes);
+        accept(told.number, Place::Line { line: told.extra, byte })?;
         let end = told.length;
         Ok(Catalogue { image, log, end })
     }

@@ -68,8 +68,14 @@ pub enum Place {
     Call,
     /// An operation of the commit, counted from 1.
     Operation(usize),
-    /// A line of the log, counted from 1.
-    Line(usize),
+    /// A line of the log.
+    Line {
+        /// Its number, counted from 1.
+        line: usize,
+        /// With [`Refusal::Heading`] and [`Refusal::Shape`] the place within the line, counted from 0, of the first byte that no line with a
+        /// shape and the same start has there, or the line's length where it is only too short or not ended; with any other refusal 0.
+        byte: usize,
+    },
     /// The lowest partition that is not clean.
     Partition(Partition),
 }
@@ -89,7 +95,10 @@ impl fmt::Display for Refused {
         match self.place {
             Place::Call => {}
             Place::Operation(n) => write!(f, ", operation {n}")?,
-            Place::Line(n) => write!(f, ", line {n}")?,
+            Place::Line { line, byte } if matches!(self.refusal, Refusal::Heading | Refusal::Shape) => {
+                write!(f, ", line {line}, byte {byte}")?
+            }
+            Place::Line { line, .. } => write!(f, ", line {line}")?,
             Place::Partition(p) => write!(f, ", partition {}", p.0)?,
         }
         write!(f, ": {}", self.refusal)

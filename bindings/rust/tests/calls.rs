@@ -191,12 +191,37 @@ fn wrong_sizes() {
     assert_eq!(Catalogue::format(&mut image, &mut log, 2, 4).unwrap_err().refusal, Refusal::Size);
     assert_eq!(Catalogue::format(&mut [], &mut [], 0, 0).unwrap_err().refusal, Refusal::Size);
     assert_eq!(Catalogue::recover(&mut image, &mut log, 401).unwrap_err().refusal, Refusal::Room);
-    assert_eq!(at(Catalogue::recover(&mut image, &mut [], 0).unwrap_err()), (3, Place::Line(1)));
+    assert_eq!(at(Catalogue::recover(&mut image, &mut [], 0).unwrap_err()), (3, Place::Line { line: 1, byte: 0 }));
     let mut bad = *b"heap\t1\t2\t4\nnew\t0\t0\t1\nroot\t0\t0\t1\nend\t2\n";
     let (mut right, written) = (vec![9; words_for(&bad)], bad.len());
     let refused = Catalogue::recover(&mut right, &mut bad, written).unwrap_err();
     assert_eq!(refused.to_string(), "refused 9, line 3: the object is not in use");
     assert_eq!(right, [0; 125]);
+}
+
+/// Where in the line: 3 asks for a heading, 4 for any line, or for any other than a heading where the line is the last and has no end.
+#[test]
+fn a_refused_recovery_says_the_byte() {
+    for (log, number, line, byte) in [
+        (&b""[..], 3, 1, 0),
+        (b"heap\t3\t2\t4", 3, 1, 10),
+        (b"heap\t4\t2\t4\n", 3, 1, 5),
+        (b"heap\t3\t2\t4\r\n", 3, 1, 10),
+        (b"heap\t3\t2\t4\nset\t0\t0\t0\t4294967295\t0\n", 4, 2, 18),
+        (b"heap\t3\t2\t4\nnew\t15\t127\t4294967295\n", 4, 2, 20),
+        (b"heap\t3\t2\t4\nend\t01\n", 4, 2, 5),
+        (b"heap\t3\t2\t4\nval\t0\t0\t\xff\n", 4, 2, 8),
+        (b"heap\t3\t2\t4\nhe\n", 4, 2, 2),
+        (b"heap\t3\t2\t4\nhe", 4, 2, 1),
+        (b"heap\t3\t2\t4\nend\t1\nxyz", 5, 2, 0),
+        (b"heap\t3\t0\t4\nxyz\n", 2, 1, 0),
+    ] {
+        let (mut image, mut bytes) = (vec![9; words_for(log)], log.to_vec());
+        let refused = Catalogue::recover(&mut image, &mut bytes, log.len()).unwrap_err();
+        assert_eq!(at(refused), (number, Place::Line { line, byte }), "{}", log.escape_ascii());
+        let place = if number == 3 || number == 4 { format!(", byte {byte}") } else { String::new() };
+        assert_eq!(refused.to_string(), format!("refused {number}, line {line}{place}: {}", refused.refusal));
+    }
 }
 
 #[test]
@@ -235,7 +260,9 @@ fn report(log: &[u8]) -> String {
     }
     let (mut image, mut log, written) = (vec![0; words_for(log)], log.to_vec(), log.len());
     match Catalogue::recover(&mut image, &mut log, written) {
-        Err(Refused { refusal, place: Place::Line(line) }) => format!("answer {}\nline {line}\n", refusal.number()),
+        Err(Refused { refusal, place: Place::Line { line, byte } }) => {
+            format!("answer {}\nline {line}\nbyte {byte}\n", refusal.number())
+        }
         Err(other) => panic!("{other}"),
         Ok(c) => {
             let phase = u32::from(c.phase_is_open());

@@ -11,10 +11,10 @@ use lib.ListN.{length, take, drop, replicate, length-drop, drop-of-length-le}
 use lib.Seq.{length-take-le, take-all, drop-drop}
 use borrow.Author.Tests.{lt-ltb, le-leb, lt-leb}
 use borrow.Rule.Slice.PartMut.{midOf, postOf, putMid}
-use Rattle.journal.specs.Recover.{recoverOf}
+use Rattle.journal.specs.Recover.{recoverOf, byteOf}
 use Rattle.recovery.specs.declared.Recovery.{Recovery}
 use Rattle.recovery.specs.declared.Recovery.the-variants.{Kept, Refused}
-use Rattle.recovery.specs.Answers.{out}
+use Rattle.recovery.specs.Answers.{out, byteIn}
 use Rattle.writer.specs.Write.{splice}
 use Rattle.catalogue.specs.Call.{outcome}
 use Rattle.scripts.specs.declared.command.Next.the-variants.{Number}
@@ -61,10 +61,12 @@ unfolding putFrom
 put-from line from log at to e room m xs q p h = h ∙ rw (e, q, m)
 
 -- a recovery's answer beside its image
-pub recovered : (n : ℕ) (img log : List ℕ) → n ≤ length log → (r : Recovery) (left : List ℕ) → out r left ≡ recoverOf (take n log) (length img) → outcome (Recovered r) left log ≡ recoverFor n img log
+pub recovered : (n : ℕ) (img log : List ℕ) → n ≤ length log → (r : Recovery) (left : List ℕ)
+    → (out r left ≡ recoverOf (take n log) (length img)) × (byteIn r ≡ byteOf (take n log) ((recoverOf (take n log) (length img)) .verdict))
+    → outcome (Recovered r) left log ≡ recoverFor n img log
 unfolding recoverFor
-recovered n img log h r left q = rw (le-leb n (length log) h, ← q) (same r)
+recovered n img log h r left q = rw (le-leb n (length log) h, ← q .1, ← q .0) (same r)
   where
-    same : (r : Recovery) → outcome (Recovered r) left log ≡ outcome (Recovered (keeping ((out r left) .verdict) ((out r left) .kept))) ((out r left) .image) log
+    same : (r : Recovery) → outcome (Recovered r) left log ≡ outcome (Recovered (keeping ((out r left) .verdict) ((out r left) .kept) (byteIn r))) ((out r left) .image) log
     same (Kept k) = refl
-    same (Refused f) = refl
+    same (Refused f b) = refl

@@ -10,7 +10,7 @@ use Rattle.kinds.specs.declared.Verdict.{Verdict}
 use Rattle.kinds.specs.declared.Verdict.the-variants.{Accepted, Refused}
 use Rattle.loops.specs.Loop.{both}
 use Rattle.model.specs.Image.{Image}
-use Rattle.journal.specs.Recover.{Recovered as A-recovery, recoverOf}
+use Rattle.journal.specs.Recover.{Recovered as A-recovery, recoverOf, byteOf}
 use Rattle.recovery.specs.declared.Recovery.{Recovery}
 use Rattle.recovery.specs.declared.Recovery.the-variants.{Kept, Refused as NotKept}
 use Rattle.writer.specs.Write.{splice}
@@ -52,17 +52,17 @@ module _ {A : Type 0} where
   abbrev pub onLent : Desk → (Image → List ℕ → Outcome A) → Image → List ℕ → Outcome A
   onLent d f img log = rejoined (f (take (d .words) img) (take (d .bytes) log)) (drop (d .words) img) (drop (d .bytes) log)
 
--- the answer of a recovery
-abbrev pub keeping : Verdict → ℕ → Recovery
-keeping Accepted k = Kept k
-keeping (Refused r) k = NotKept r
+-- the answer of a recovery: the kept length, or the refusal with its byte
+abbrev pub keeping : Verdict → ℕ → ℕ → Recovery
+keeping Accepted k b = Kept k
+keeping (Refused r) k b = NotKept r b
 
 -- recovery of the first n bytes of the log buffer
 unfoldable pub recoverFor : ℕ → Image → List ℕ → Outcome Response
 recoverFor n img log = cond (leb n (length log)) (recovered (recoverOf (take n log) (length img))) (outcome Asked-what img log)
   where
     recovered : A-recovery → Outcome Response
-    recovered r = outcome (Recovered (keeping (r .verdict) (r .kept))) (r .image) log
+    recovered r = outcome (Recovered (keeping (r .verdict) (r .kept) (byteOf (take n log) (r .verdict)))) (r .image) log
 
 -- an answer beside the words or bytes that are left
 pub record Put : Type 0 where

@@ -23,7 +23,7 @@ use Rattle.model.specs.Acts.{Act, commit, single}
 use Rattle.model.specs.Judge.{check}
 use Rattle.model.specs.Sound.{isSound}
 use Rattle.lines.specs.Print.{Bytes}
-use Rattle.journal.specs.Recover.{Recovered, recoverOf}
+use Rattle.journal.specs.Recover.{Recovered, recoverOf, byteOf}
 use Rattle.journal.specs.Refusals.{Refuses, no-line, no-heading, wrong-size, no-shape, misplaced, miscounted, refused-act, no-beginning}
 use Rattle.journal.proofs.AnyBytes.{refused-so}
 use Rattle.catalogue.specs.declared.Answer.{Answer}
@@ -84,10 +84,10 @@ askedAs b = cond b Yes No
 abbrev pub askedBack : Said Bool → Asked
 askedBack = readBack askedAs (λ r b. NotAsked r)
 
-abbrev recoveredAs : Verdict → Restored → Recovered
-recoveredAs v x = record { verdict = v; kept = x .kept; image = x .image }
+abbrev recoveredAs : Verdict → Restored → Recovered × ℕ
+recoveredAs v x = (record { verdict = v; kept = x .kept; image = x .image }, x .byte)
 
-abbrev pub recoveredBack : Said Restored → Recovered
+abbrev pub recoveredBack : Said Restored → Recovered × ℕ
 recoveredBack = readBack (recoveredAs Accepted) (λ r. recoveredAs (Refused r))
 
 -- 1 is the call's own first check
@@ -193,6 +193,8 @@ log-number (miscounted b i rest s p m) = omega arith
 log-number (refused-act a b rest s p k e j) = among-number _ k e (among-wider 1 16 _ (omega arith) (omega arith) (act-among _ _ _ a)) j
 log-number (no-beginning b tail u none-such) = omega arith
 
-pub recover-back : (log : List ℕ) (len : ℕ) → Bytes log → recoveredBack (saidRecovered (recoverOf log len)) ≡ recoverOf log len
+-- recovery's answer with its byte
+pub recover-back : (log : List ℕ) (len : ℕ) → Bytes log → let x = recoverOf log len in recoveredBack (saidRecovered log x) ≡ (x, byteOf log (x .verdict))
 recover-back log len b =
-    beside-back recoveredAs (recoverOf log len .verdict) (restored (recoverOf log len .kept) (recoverOf log len .image)) (λ k l e. log-number (refused-so log len b k l e))
+    let x = recoverOf log len in
+    beside-back recoveredAs (x .verdict) (restored (x .kept) (byteOf log (x .verdict)) (x .image)) (λ k l e. log-number (refused-so log len b k l e))

@@ -18,13 +18,13 @@ use Rattle.model.specs.Acts.{commit}
 use Rattle.model.specs.Judge.{check}
 use Rattle.model.specs.Sound.{isSound}
 use Rattle.writer.specs.Record.{recordOf}
-use Rattle.journal.specs.Recover.{Recovered}
-use Rattle.recovery.specs.Answers.{out}
+use Rattle.journal.specs.Recover.{Recovered, byteOf}
+use Rattle.recovery.specs.Answers.{out, byteIn}
 use Rattle.recovery.specs.declared.Recovery.{Recovery}
 use Rattle.recovery.specs.declared.Recovery.the-variants.{Kept, Refused as NotKept}
 use Rattle.catalogue.specs.declared.Answer.{Answer}
 use Rattle.catalogue.specs.declared.Answer.the-variants.{Done, Refused as NotDone}
-use Rattle.catalogue.specs.Answers.{Said, totals, yield, said}
+use Rattle.catalogue.specs.Answers.{Said, saidVerdict, totals, yield, said}
 use Rattle.catalogue.specs.Call.{Outcome, outcome, perform, judgeIn, applyIn, judgeCommit, commitOf}
 use Rattle.heidrunok.specs.Face.{told, seen, restored, saidRecovered, operationOf, commitBy}
 
@@ -46,16 +46,16 @@ yield-told n e v f = told-more (λ k. yield k f) n e v
 
 abbrev answerOf : Recovery → Answer
 answerOf (Kept k) = Done k
-answerOf (NotKept r) = NotDone r
+answerOf (NotKept r b) = NotDone r
 
-pub recover-told : (n e v : ℕ) (y : Image) (a b : Recovery) (x : Recovered) → told n e v ≡ said (answerOf b) → a ≡ b → out a y ≡ x
-    → told n e (restored v y) ≡ saidRecovered x
-recover-told n e v y a b x q g o =
-    told-more (λ k. restored k y) n e v (said (answerOf b)) q ∙ go b ∙ ap saidRecovered (ap (λ (c : Recovery). out c y) (sym g) ∙ o)
+pub recover-told : (n e v : ℕ) (y : Image) (log : List ℕ) (a b : Recovery) (x : Recovered) → told n e v ≡ said (answerOf b) → a ≡ b
+    → (out a y ≡ x) × (byteIn a ≡ byteOf log (x .verdict)) → told n e (restored v (byteIn b) y) ≡ saidRecovered log x
+recover-told n e v y log a b x q g o = told-more (λ k. restored k (byteIn b) y) n e v (said (answerOf b)) q ∙ rw (← o .1, ← o .0, g) (go b)
   where
-    go : (b : Recovery) → let s = said (answerOf b) in told (s .number) (s .extra) (restored (s .value) y) ≡ saidRecovered (out b y)
+    go : (b : Recovery) → let s = said (answerOf b) in
+        told (s .number) (s .extra) (restored (s .value) (byteIn b) y) ≡ saidVerdict ((out b y) .verdict) (restored ((out b y) .kept) (byteIn b) ((out b y) .image))
     go (Kept k) = refl
-    go (NotKept r) = refl
+    go (NotKept r b) = refl
 
 -- no extra answer
 module _ {A : Type 0} where

@@ -85,9 +85,10 @@ pub drop-once : (κs : Lfts 4) (xs : Dens κs drop.ps) (a b : resT drop.r κs .D
     (now (s .0)) (now (t .0)) (now (s .1 .1 .0)) (now (t .1 .1 .0))
 drop-once κs xs a b s t p q = once _ _ _ _ _ _ _ p q
 
-pub recover-once : (κs : Lfts 4) (xs : Dens κs recover.ps) (a b : resT recover.r κs .Denot) (s t : AtExit (endedOf 4 recover.ps recover.r) κs)
+pub recover-once : (κs : Lfts 5) (xs : Dens κs recover.ps) (a b : resT recover.r κs .Denot) (s t : AtExit (endedOf 5 recover.ps recover.r) κs)
     → recover-reads.Post κs xs a s → recover-reads.Post κs xs b t
-    → told a (now (s .1 .1 .1 .0)) (restored (now (s .1 .1 .0)) (now (s .0))) ≡ told b (now (t .1 .1 .1 .0)) (restored (now (t .1 .1 .0)) (now (t .0)))
+    → told a (now (s .1 .1 .1 .0)) (restored (now (s .1 .1 .0)) (now (s .1 .1 .1 .1 .0)) (now (s .0)))
+    ≡ told b (now (t .1 .1 .1 .0)) (restored (now (t .1 .1 .0)) (now (t .1 .1 .1 .1 .0)) (now (t .0)))
 recover-once κs xs a b s t p q = p ∙ sym q
 
 -- read, ask and outlist are lent an image that they cannot change

@@ -14,7 +14,7 @@ use Rattle.kinds.specs.declared.Operation.the-variants.{New, Set, Val, Root}
 use Rattle.kinds.specs.declared.Verdict.{Verdict}
 use Rattle.kinds.specs.declared.Verdict.the-variants.{Accepted, Refused}
 use Rattle.model.specs.Image.{Image}
-use Rattle.journal.specs.Recover.{Recovered}
+use Rattle.journal.specs.Recover.{Recovered, byteOf}
 use Rattle.catalogue.specs.declared.Answer.{Answer}
 use Rattle.catalogue.specs.Answers.{Said, saidVerdict}
 use Rattle.catalogue.specs.Call.{Outcome, outcome, commitOf}
@@ -29,17 +29,18 @@ module _ {A B : Type 0} where
   abbrev pub seen : (A → B) → Outcome A → Outcome B
   seen say o = outcome (say (o .answer)) (o .image) (o .log)
 
--- what recovery answers and leaves beside the number and the line: the kept length, and the image
+-- what recovery answers and leaves beside the number and the line: the kept length, the byte within the line, and the image
 pub record Restored : Type 0 where
   pub kept : ℕ
+  pub byte : ℕ
   pub image : Image
 
-abbrev pub restored : ℕ → Image → Restored
-restored k y = record { kept = k; image = y }
+abbrev pub restored : ℕ → ℕ → Image → Restored
+restored k b y = record { kept = k; byte = b; image = y }
 
--- a verdict beside it, and so what recovery says
-abbrev pub saidRecovered : Recovered → Said Restored
-saidRecovered x = saidVerdict (x .verdict) (restored (x .kept) (x .image))
+-- a verdict beside it, and so what recovery says of a log
+abbrev pub saidRecovered : List ℕ → Recovered → Said Restored
+saidRecovered log x = saidVerdict (x .verdict) (restored (x .kept) (byteOf log (x .verdict)) (x .image))
 
 -- the paper's number of a verdict; 0 is accepted
 abbrev pub numberOf : Verdict → ℕ

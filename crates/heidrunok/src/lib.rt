@@ -1,7 +1,7 @@
 // The catalogue's twelve calls for C and Rust: `rt staticlib heidrunok` proves this crate and writes target/staticlib/libheidrunok.a
 // (bindings/README.md). A slice is a pointer and a length. Each call returns the paper's number, 0 where it is accepted, and writes what it
-// answers through its last pointers: zeros where it is refused, but for the extra answer. None has a `requires`; each has one `ensures`,
-// an equation with the definition that the same call's contract cites in `catalogue` or `recovery`, its answer said in numbers
+// answers through its last pointers: zeros where it is refused, but for the extra answer and recovery's byte. None has a `requires`; each has
+// one `ensures`, an equation with the definition that the same call's contract cites in `catalogue` or `recovery`, its answer said in numbers
 // (specs/Face.antt). That these numbers lose nothing is proved in proofs/Back.antt, that an operation of no kind is refused with 7 in
 // proofs/Unknown.antt, and that no second outcome meets a contract in proofs/Unique.antt.
 use catalogue::Answer;
@@ -232,19 +232,26 @@ pub extern "C" fn heidrunok_drop(
     tell(catalogue::drop(img, Handle(h), log, at), length, extra)
 }
 
-// The extra answer is the line.
+// The extra answer is the line; also the byte within it.
 #[no_mangle]
 pub extern "C" fn heidrunok_recover(
     img: &mut [u32],
     log: &[u8],
     kept: &mut usize,
     line: &mut usize,
+    byte: &mut usize,
 ) -> u32
-    ensures { λ r. ⌜ told r (now (line .exit)) (restored (now (kept .exit)) (now (img .exit))) ≡ saidRecovered (recoverOf (now (log .entry)) (length (now (img .entry)))) ⌝ }
+    ensures { λ r. ⌜ told r (now (line .exit)) (restored (now (kept .exit)) (now (byte .exit)) (now (img .exit))) ≡ saidRecovered (now (log .entry)) (recoverOf (now (log .entry)) (length (now (img .entry)))) ⌝ }
 {
     match recovery::recover(img, log) {
-        Recovery::Kept(n) => return tell(Answer::Done(n), kept, line),
-        Recovery::Refused(r) => return tell(Answer::Refused(r), kept, line),
+        Recovery::Kept(n) => {
+            *byte = 0;
+            return tell(Answer::Done(n), kept, line);
+        }
+        Recovery::Refused(r, b) => {
+            *byte = b;
+            return tell(Answer::Refused(r), kept, line);
+        }
     }
 }
 

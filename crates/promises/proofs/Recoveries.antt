@@ -1,7 +1,7 @@
--- Demand 1, recovery: what it answers is what the table says of the log, and no other answer meets the table.
+-- Demand 1, recovery: what it answers is what the table says of the log, the byte with it, and no other answer meets the table.
 -- Assumes nothing.
 use Prim.Native.Nat.{ℕ}
-use mathlib.Core.Path.{_≡_, refl, sym, subst}
+use mathlib.Core.Path.{_≡_, refl, sym, ap, _∙_, subst}
 use mathlib.Core.List.{List}
 use lib.Dec.{eqb}
 use Rattle.loops.specs.Loop.{both}
@@ -16,10 +16,11 @@ use Rattle.model.specs.Image.{Image, partitions, slots, get, size}
 use Rattle.model.specs.Judge.{check, inLimits, judgeFormat, judge}
 use Rattle.writer.specs.Record.{Rule}
 use Rattle.journal.specs.Log.{replay, History}
-use Rattle.journal.specs.Recover.{Recovered, recoverOf}
+use Rattle.journal.specs.Recover.{Recovered, recoverOf, byteOf}
 use Rattle.journal.specs.Refusals.{Refuses as Judges}
 use Rattle.journal.proofs.AnyBytes.{any-bytes, refused-so}
 use Rattle.journal.proofs.Demand.{kept-is}
+use Rattle.journal.proofs.Locating.{located, located-one}
 use Rattle.journal.proofs.Placing.{Counted}
 use Rattle.journal.proofs.Refusals.{refuses-as, refused-only}
 use Rattle.promises.specs.Rows.{Found, WrongSize, actRows}
@@ -56,16 +57,21 @@ from-paper {len} =
     refuses-as (λ P S w. wrong-format P S len w)
     (λ h acts s a c k e f. found-one (actRows (replay h acts) a) (settled-act (replay h acts) a) (judge (h .P) (h .S) (replay h acts) a) (refuse k e) (judged h acts s a c) f)
 
--- RECOVERY
-pub recover-first : (log : List ℕ) (len : ℕ) → Bytes log → Recovers log len (recoverOf log len)
-recover-first log len b = by ((recoverOf log len) .verdict) refl
+-- RECOVERY, and the byte
+pub recover-first : (log : List ℕ) (len : ℕ) → Bytes log → Recovers log len (recoverOf log len) (byteOf log ((recoverOf log len) .verdict))
+recover-first log len small = by ((recoverOf log len) .verdict) refl
   where
-    by : (v : Verdict) → (recoverOf log len) .verdict ≡ v → Recovers log len (recoverOf log len)
-    by Accepted e = let a = any-bytes log len b e in subst (Recovers log len) (sym (kept-is (a .kept))) (kept (a .rule) (a .acts) (a .kept))
+    by : (v : Verdict) → (recoverOf log len) .verdict ≡ v → Recovers log len (recoverOf log len) (byteOf log ((recoverOf log len) .verdict))
+    by Accepted e =
+        let a = any-bytes log len small e in
+        subst (λ (o : Recovered). Recovers log len o (byteOf log (o .verdict))) (sym (kept-is (a .kept))) (kept (a .rule) (a .acts) (a .kept))
     by (Refused r) e =
-        let f = refused-so log len b (r .number) (r .extra) e in
-        subst (Recovers log len) (sym (refused-only log len b (r .number) (r .extra) f)) (refused (r .number) (r .extra) (to-paper f))
+        let f = refused-so log len small (r .number) (r .extra) e in
+        subst (λ (o : Recovered). Recovers log len o (byteOf log (o .verdict))) (sym (refused-only log len small (r .number) (r .extra) f))
+        (refused (r .number) (r .extra) _ (to-paper f) (located log small (r .number) (r .extra)))
 
-pub recover-exactly : (log : List ℕ) (len : ℕ) → Bytes log → (r : Recovered) → Recovers log len r → r ≡ recoverOf log len
-recover-exactly log len b r (kept h acts k) = sym (kept-is k)
-recover-exactly log len b r (refused k l f) = sym (refused-only log len b k l (from-paper f))
+pub recover-exactly : (log : List ℕ) (len : ℕ) → Bytes log → (r : Recovered) (b : ℕ) → Recovers log len r b → (r ≡ recoverOf log len) × (b ≡ byteOf log ((recoverOf log len) .verdict))
+recover-exactly log len small r b (kept h acts k) = (sym (kept-is k), ap (λ (o : Recovered). byteOf log (o .verdict)) (sym (kept-is k)))
+recover-exactly log len small r b (refused k l _ f at) =
+    let e = refused-only log len small k l (from-paper f) in
+    (sym e, located-one at (located log small k l) ∙ ap (λ (o : Recovered). byteOf log (o .verdict)) (sym e))

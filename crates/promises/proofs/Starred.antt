@@ -1,36 +1,41 @@
--- The starred numbers, in a single table covered by one proof: it computes; and rows of our own in a second. Two partitions of four slots.
+-- The starred numbers, in a single table covered by one proof: it computes, but for the cuts at 11 to 88 bytes, which are demand 2; and rows of our own in a
+-- second. Two partitions of four slots.
 -- Assumes nothing.
-use Prim.Native.Nat.{ℕ, _+_, _-_, _≤_, _<_}
+use Prim.Native.Nat.{ℕ, _≤_}
 use native.Mathlib.Omega.{arith}
 use mathlib.Core.Path.{_≡_, refl, sym, ap, _∙_}
-use mathlib.Core.Bool.{Bool, true, false, true≢false}
+use mathlib.Core.Bool.{Bool, true}
 use mathlib.Core.List.{List, [], _∷_, _++_}
 use lib.Dec.{eqb}
-use lib.ListN.{take, replicate}
-use borrow.Author.Tests.{eqb-true}
+use lib.ListN.{length, take, drop, replicate}
+use lib.Seq.{take-take}
+use borrow.Author.Tests.{lt-leb, eqb-true}
 use Rattle.loops.specs.Cases.{case, from-to, Agree}
-use Rattle.loops.specs.Loop.{both, every}
+use Rattle.loops.specs.Loop.{both}
 use Rattle.loops.proofs.Tests.{both-true}
-use Rattle.loops.proofs.Loops.{every-true}
 use Rattle.kinds.specs.Names.{partition, named, session as handle-of, wordOf}
+use Rattle.kinds.specs.Answers.{refuse}
 use Rattle.kinds.specs.Operations.{new, set-to, root-to, unroot, three}
 use Rattle.kinds.specs.declared.Name.{Name}
 use Rattle.kinds.specs.declared.Handle.{Handle}
 use Rattle.kinds.specs.declared.Target.the-variants.{Object}
 use Rattle.kinds.specs.declared.Single.the-variants.{Close, Local, Hold, Drop}
-use Rattle.kinds.specs.declared.Verdict.{Verdict}
-use Rattle.kinds.specs.declared.Verdict.the-variants.{Accepted, Refused}
 use Rattle.lines.proofs.Computing.{reading, printing}
 use Rattle.model.proofs.Computing.{imaging, looping, acting, judging, sounding, listing}
 use Rattle.lines.specs.declared.line.Line.the-variants.{Operation, Single}
+use Rattle.lines.specs.Cursor.{body, after}
 use Rattle.lines.specs.Print.{print}
+use Rattle.lines.specs.Words.{Edition}
 use Rattle.model.specs.Image.{Image, state, addr, lengthOf, size, blank, place}
-use Rattle.model.specs.Acts.{Act, single, perform}
+use Rattle.model.specs.Acts.{Act, commit, single, perform}
+use Rattle.model.specs.History.{still, acted}
 use Rattle.model.specs.Outlist.{outlist}
 use Rattle.model.specs.Sessions.{Retains}
 use Rattle.writer.specs.Record.{rule, opLines, recordOf, headingOf}
 use Rattle.writer.specs.Write.{splice}
-use Rattle.journal.specs.Recover.{act, headed, feed, feedAll, Recovered, refusal, recovery, answer, recoverOf}
+use Rattle.journal.proofs.Demand.{demand-2}
+use Rattle.journal.specs.Log.{logOf, replay, whole, History}
+use Rattle.journal.specs.Recover.{act, headed, feed, feedAll, Recovered, refusal, recovery, answer, recoverOf, byteBy, byteOf}
 use Rattle.catalogue.specs.Call as call
 use Rattle.catalogue.specs.Call.{judgeAct, judgeCommit, judgeForeign, formatOf, callBy, commitOf, listingOf}
 use Rattle.promises.specs.Calls.{Call, actOf, calling}
@@ -39,74 +44,34 @@ use Rattle.promises.specs.Paper.{paperLog, threeHolding, threeObjects, d
 
 -- What computes here, by subject (see model/proofs/Computing.antt)
 logging : Unit {0}
-unfolding recordOf headingOf splice
+unfolding recordOf headingOf logOf splice
 logging = tt
 
 recovering : Unit {0}
-unfolding act headed feed feedAll answer recoverOf
+unfolding act headed feed feedAll answer recoverOf body after byteBy
 recovering = tt
 
 performing : Unit {0}
 unfolding call.perform judgeAct judgeCommit judgeForeign formatOf callBy commitOf listingOf
 performing = tt
 
--- the test that a recovery is accepted, keeps n bytes and leaves y
-sameWords : List ℕ → List ℕ → Bool
-sameWords [] [] = true
-sameWords [] (y ∷ ys) = false
-sameWords (x ∷ xs) [] = false
-sameWords (x ∷ xs) (y ∷ ys) = both (eqb x y) (sameWords xs ys)
+-- the paper's transaction is a history under a heading of each edition
+transacted : (e : ℕ) → Edition e → History (rule e 2 4) (commit three ∷ [])
+unfolding imaging looping acting judging replay
+transacted e known =
+    record { edition = known; range = refl; words = ((omega arith, (omega arith, (omega arith, (tt, (tt, (tt, tt)))))), tt); run = acted (commit three) still refl }
 
-isAccepted : Verdict → Bool
-isAccepted Accepted = true
-isAccepted (Refused r) = false
-
-gives : ℕ → Image → Recovered → Bool
-gives n y r = both (isAccepted (r .verdict)) (both (eqb (r .kept) n) (sameWords (r .image) y))
-
-same-words : (xs ys : List ℕ) → sameWords xs ys ≡ true → xs ≡ ys
-unfolding sameWords
-same-words [] [] e = refl
-same-words [] (y ∷ ys) e = absurd (true≢false (sym e))
-same-words (x ∷ xs) [] e = absurd (true≢false (sym e))
-same-words (x ∷ xs) (y ∷ ys) e =
-    let b = both-true (eqb x y) (sameWords xs ys) e in
-    ap (λ (z : ℕ). z ∷ xs) (eqb-true x y (b .0)) ∙ ap (λ (zs : List ℕ). y ∷ zs) (same-words xs ys (b .1))
-
-is-accepted : (v : Verdict) → isAccepted v ≡ true → v ≡ Accepted
-unfolding isAccepted
-is-accepted Accepted e = refl
-is-accepted (Refused r) e = absurd (true≢false (sym e))
-
-gives-it : (n : ℕ) (y : Image) (r : Recovered) → gives n y r ≡ true → r ≡ recovery n y
-unfolding gives
-gives-it n y r e =
-    let a = both-true (isAccepted (r .verdict)) _ e in
-    let b = both-true (eqb (r .kept) n) _ (a .1) in
-    let v = is-accepted (r .verdict) (a .0) in
-    let k = eqb-true (r .kept) n (b .0) in
-    let s = same-words (r .image) y (b .1) in
-    λ i. record { verdict = v i; kept = k i; image = s i }
-
--- every cut from 11 to 88 bytes, under a heading of each edition, computed
-cuts : every 3 (λ e. every 78 (λ i. gives 11 (blank 2 4) (recoverOf (take (11 + i) (paperLog (e + 1))) 125))) ≡ true
-unfolding sameWords isAccepted gives reading imaging looping acting judging recovering
-cuts = refl
-
-cut-at : (e : ℕ) → e < 3 → (k : ℕ) → 11 ≤ k → k ≤ 88 → recoverOf (take k (paperLog (e + 1))) 125 ≡ recovery 11 (blank 2 4)
-cut-at e l k lo hi =
-    let c = every-true 3 (λ e. every 78 (λ i. gives 11 (blank 2 4) (recoverOf (take (11 + i) (paperLog (e + 1))) 125))) cuts e l in
-    let q : 11 + (k - 11) ≡ k = omega arith in
-    gives-it 11 (blank 2 4) _ (rw q at (every-true 78 (λ i. gives 11 (blank 2 4) (recoverOf (take (11 + i) (paperLog (e + 1))) 125)) c (k - 11) (omega arith)))
-
-c1 : (k : ℕ) → 11 ≤ k → k ≤ 88 → recoverOf (take k (paperLog 1)) 125 ≡ recovery 11 (blank 2 4)
-c1 = cut-at 0 (omega arith)
-
-c2 : (k : ℕ) → 11 ≤ k → k ≤ 88 → recoverOf (take k (paperLog 2)) 125 ≡ recovery 11 (blank 2 4)
-c2 = cut-at 1 (omega arith)
-
-c3 : (k : ℕ) → 11 ≤ k → k ≤ 88 → recoverOf (take k (paperLog 3)) 125 ≡ recovery 11 (blank 2 4)
-c3 = cut-at 2 (omega arith)
+-- so by demand 2 the cuts from 11 to 88 bytes, within its record, leave the formatting alone
+cut-at : (e : ℕ) → Edition e → length (headingOf (rule e 2 4)) ≡ 11 → take 89 (paperLog e) ≡ logOf (rule e 2 4) (commit three ∷ [])
+    → (k : ℕ) → 11 ≤ k → k ≤ 88 → recoverOf (take k (paperLog e)) 125 ≡ recovery 11 (blank 2 4)
+unfolding whole logOf replay size
+cut-at e known eleven begins k lo hi =
+    let record-end : length (logOf (rule e 2 4) (commit three ∷ [])) ≡ 89 = sym (ap length begins) in
+    let none : whole (rule e 2 4) (commit three ∷ []) k ≡ [] = rw (lt-leb (length (logOf (rule e 2 4) (commit three ∷ []))) k (omega arith)) in
+    ap (λ (zs : List ℕ). recoverOf zs 125) (sym (take-take k 89 (paperLog e) (omega arith)) ∙ ap (take k) begins)
+    ∙ demand-2 (rule e 2 4) (commit three ∷ []) (transacted e known) k (omega arith)
+    ∙ ap (λ (acts : List Act). recovery (length (logOf (rule e 2 4) acts)) (replay (rule e 2 4) acts)) none
+    ∙ ap (λ (n : ℕ). recovery n (blank 2 4)) eleven
 
 -- a phase of four traces
 abbrev four-traces : List Call
@@ -146,6 +111,10 @@ hold-line = recordOf (single (Hold (handle-of 31) (named 0 1)))
 -- a line of 21 bytes: `new` 4294967295 4294 0
 abbrev overlong : List ℕ
 overlong = print (Operation (new 4294967295 4294 0))
+
+-- the paper's log, a byte of its line 5 altered
+abbrev altered : List ℕ
+altered = take 49 (paperLog 3) ++ (120 ∷ drop 50 (paperLog 3))
 
 -- THE STARRED NUMBERS. The first reply of a session is its formatting's.
 pub table :
@@ -190,7 +159,7 @@ pub table :
     [])
 unfolding reading printing logging imaging looping acting judging recovering sounding listing performing
 table =
-    (refl, (refl, (refl, (refl, (refl, (refl, (refl, (refl, (refl, (refl, (refl, (refl, (refl, (refl, (refl, (refl, (c1, (c2, (c3, (refl, (refl, (refl, (refl, (refl, (refl, tt)))))))))))))))))))))))))
+    (refl, (refl, (refl, (refl, (refl, (refl, (refl, (refl, (refl, (refl, (refl, (refl, (refl, (refl, (refl, (refl, (cut-at 1 refl refl refl, (cut-at 2 refl refl refl, (cut-at 3 refl refl refl, (refl, (refl, (refl, (refl, (refl, (refl, tt)))))))))))))))))))))))))
 
 -- OUR OWN, beside them
 pub own-table :
@@ -237,25 +206,38 @@ pub own-table :
     case (recoverOf (headingOf (rule 3 2 4) ++ take 19 overlong) 125) (refusal 125 4 2) ∷
     case (recoverOf (paperLog 2 ++ replicate 20 120) 125) (refusal 125 4 15) ∷
     case (recoverOf (paperLog 3 ++ take 2 (paperLog 3)) 125) (refusal 125 4 15) ∷
+    -- and the byte of each: none with 5; the digit of an edition that there is not; the digit for which there is no room; other text at once; the byte that only a
+    -- heading has there
+    case (byteOf (headings 3) (refuse 5 2)) 0 ∷ case (byteOf (headings 4) (refuse 4 2)) 5 ∷ case (byteOf (headingOf (rule 4 2 4)) (refuse 3 1)) 5 ∷
+    case (byteOf (headingOf (rule 3 2 4) ++ take 19 overlong) (refuse 4 2)) 18 ∷ case (byteOf (paperLog 2 ++ replicate 20 120) (refuse 4 15)) 0 ∷
+    case (byteOf (paperLog 3 ++ take 2 (paperLog 3)) (refuse 4 15)) 1 ∷
+    -- the paper's log cut at 10 bytes is a heading without its end: all of it; with a byte altered it is that one
+    case (byteOf (take 10 (paperLog 1)) (refuse 3 1)) 10 ∷ case (byteOf (take 10 (paperLog 2)) (refuse 3 1)) 10 ∷ case (byteOf (take 10 (paperLog 3)) (refuse 3 1)) 10 ∷
+    case (recoverOf altered 125) (refusal 125 4 5) ∷ case (byteOf altered (refuse 4 5)) 5 ∷
     [])
 unfolding reading printing logging imaging looping acting judging recovering sounding listing performing
 own-table =
-    (refl, (refl, (refl, (refl, (refl, (refl, (refl, (refl, (refl, (refl, (refl, (refl, (refl, (refl, (refl, (refl, (refl, (refl, (refl, (refl, (refl, (refl, (refl, (refl, (refl, (refl, tt))))))))))))))))))))))))))
+    (refl, (refl, (refl, (refl, (refl, (refl, (refl, (refl, (refl, (refl, (refl, (refl, (refl, (refl, (refl, (refl, (refl, (refl, (refl, (refl, (refl, (refl, (refl, (refl, (refl, (refl, (refl, (refl, (refl, (refl, (refl, (refl, (refl, (refl, (refl, (refl, (refl, tt)))))))))))))))))))))))))))))))))))))
 
--- a session of a table goes on with calls that are accepted and retain what a handle holds
-abbrev Passes : Handle → Name → Session → List Call → Type 0
-Passes h n s [] = Unit {0}
-Passes h n s (c ∷ cs) = Retains h n (actOf c) × ((calling (s .image) c (s .log) (s .end)) .number ≡ 0) × Passes h n (next s c) cs
+-- a session of a table goes on with calls that are accepted, and that retain what a handle holds
+abbrev accepted : Session → List Call → Bool
+accepted s [] = true
+accepted s (c ∷ cs) = both (eqb ((calling (s .image) c (s .log) (s .end)) .number) 0) (accepted (next s c) cs)
 
-passes : {h : Handle} {n : Name} {x : Image} {acts : List Act} (s : Session) (cs : List Call) → HeldSince h n x acts (s .image) → Passes h n s cs
+abbrev Retaining : Handle → Name → List Call → Type 0
+Retaining h n [] = Unit {0}
+Retaining h n (c ∷ cs) = Retains h n (actOf c) × Retaining h n cs
+
+passes : {h : Handle} {n : Name} {x : Image} {acts : List Act} (s : Session) (cs : List Call) → HeldSince h n x acts (s .image) → Retaining h n cs → accepted s cs ≡ true
     → (since : List Act) × HeldSince h n x since ((continued s cs) .image)
-passes s [] r p = (_, r)
-passes s (c ∷ cs) r p = passes (next s c) cs (called r c (p .0) (s .log) (s .end) (p .1)) (p .2)
+passes s [] r p e = (_, r)
+passes s (c ∷ cs) r p e =
+    let b = both-true (eqb ((calling (s .image) c (s .log) (s .end)) .number) 0) (accepted (next s c) cs) e in
+    passes (next s c) cs (called r c (p .0) (s .log) (s .end) (eqb-true _ 0 (b .0))) (p .1) (b .1)
 
 -- WHAT THE PROMISE ON SESSIONS SUPPOSES IS MET: the session that holds (1,0) goes on, its root expired, through a phase and local collections
 pub browsed : (since : List Act) × HeldSince (handle-of 31) (named 1 0) (session (take 1 browsing) .image) since (session (browsing ++ collecting) .image)
 unfolding printing logging imaging looping acting judging sounding performing
 browsed =
     let s : Session = session (take 1 browsing) in
-    passes (next s (holding 31 1 0)) (committing (unroot 1 ∷ []) ∷ collecting) (held (s .log) (s .end) refl)
-    (tt, refl, (tt, refl, (tt, refl, (tt, refl, (tt, refl, (tt, refl, (tt, refl, (tt, refl, tt))))))))
+    passes (next s (holding 31 1 0)) (committing (unroot 1 ∷ []) ∷ collecting) (held (s .log) (s .end) refl) (tt, (tt, (tt, (tt, (tt, (tt, (tt, (tt, tt)))))))) refl

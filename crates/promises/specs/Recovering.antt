@@ -7,14 +7,15 @@ use Rattle.model.specs.Acts.{Act}
 use Rattle.writer.specs.Record.{Rule}
 use Rattle.journal.specs.Log.{logOf, replay, Kept}
 use Rattle.journal.specs.Recover.{Recovered, recovery, refusal}
-use Rattle.journal.specs.Refusals.{RefusesBy}
+use Rattle.journal.specs.Refusals.{RefusesBy, Located}
 use Rattle.promises.specs.Rows.{Found, WrongSize, actRows}
 
 -- refused with a number at a line: 2 as of format, an act by the list that its call has
 abbrev pub Refuses : ℕ → List ℕ → ℕ → ℕ → Type 0
 Refuses = RefusesBy WrongSize (λ P S y a k e. Found (actRows y a) (refuse k e))
 
--- RECOVERY of a log into `len` words: what it says is kept, to the end of its last record; or refused, all zeros, a kept length of 0
-pub data Recovers (log : List ℕ) (len : ℕ) : Recovered → Type 0 where
-  kept : (h : Rule) (acts : List Act) → Kept log len h acts → Recovers log len (recovery (length (logOf h acts)) (replay h acts))
-  refused : (k l : ℕ) → Refuses len log k l → Recovers log len (refusal len k l)
+-- RECOVERY of a log into `len` words, and the byte: what it says is kept, to the end of its last record, and 0; or refused, all zeros, a kept length of 0, and
+-- where the fault is in the refused line
+pub data Recovers (log : List ℕ) (len : ℕ) : Recovered → ℕ → Type 0 where
+  kept : (h : Rule) (acts : List Act) → Kept log len h acts → Recovers log len (recovery (length (logOf h acts)) (replay h acts)) 0
+  refused : (k l b : ℕ) → Refuses len log k l → Located log k l b → Recovers log len (refusal len k l) b

@@ -1,6 +1,6 @@
 -- No report is longer than the room that it is lent; and the ends of the call, each from what the code has there.
 -- Assumes nothing.
-use Prim.Native.Nat.{ℕ, _+_, _*_, _≤_, _<_}
+use Prim.Native.Nat.{ℕ, _+_, _-_, _*_, _≤_, _<_}
 use native.Mathlib.Omega.{arith}
 use mathlib.Core.Path.{_≡_, sym, ap, subst, _∙_}
 use mathlib.Core.Bool.{Bool, true, false, cond}
@@ -13,25 +13,30 @@ use Rattle.kinds.specs.declared.Refusal.{Refusal}
 use Rattle.kinds.specs.declared.Verdict.{Verdict}
 use Rattle.kinds.specs.declared.Verdict.the-variants.{Accepted, Refused}
 use Rattle.model.specs.Image.{Image, phase, get, size}
-use Rattle.journal.specs.Recover.{Recovered, recoverOf}
+use Rattle.journal.proofs.Locating.{byte-most}
+use Rattle.journal.specs.Recover.{Recovered, recoverOf, byteOf}
 use Rattle.journal.proofs.AnyBytes.{any-bytes, refused-so}
 use Rattle.journal.proofs.Salvaging.{kept-within, refused-within}
+use Rattle.lines.specs.Cursor.{after}
+use Rattle.lines.specs.Machine.{limit}
 use Rattle.lines.specs.Print.{Put, Bytes}
 use Rattle.writer.specs.declared.Written.{Written}
 use Rattle.writer.specs.declared.Written.the-variants.{Done, Full}
 use Rattle.writer.specs.Write.{Wrote, wrote, splice}
-use Rattle.recovery.specs.Answers.{out}
+use Rattle.recovery.specs.Answers.{out, byteIn}
 use Rattle.recovery.specs.declared.Recovery.{Recovery}
 use Rattle.recovery.specs.declared.Recovery.the-variants.{Kept, Refused as NotKept}
 use Rattle.reporting.specs.declared.asked.Asked.{Asked}
-use Rattle.reporting.specs.Report.{mostBytes, mostWords, room, answerWord, lineWord, keptWord, phaseWord, toolongWord, row, objects, refusedText, keptText, told, shown, askedOf, lent, recoveredText, reportOf, reported}
+use Rattle.reporting.specs.Report.{mostBytes, mostWords, room, answerWord, lineWord, byteWord, keptWord, phaseWord, toolongWord, row, objects, refusedText, keptText, told, shown, askedOf, lent, recoveredText, reportOf, reported}
 use Rattle.reporting.proofs.Headings.{Bounded, asked-bounded}
 use Rattle.reporting.proofs.Texts.{row-length, objects-length, places-most}
 
-refused-length : (n k : ℕ) → length (refusedText n k) ≤ room
+refused-length : (n l b : ℕ) → length (refusedText n l b) ≤ room
 unfolding refusedText
-refused-length n k =
-    omega (arith, row-length answerWord n, row-length lineWord k, length-append (row answerWord (n ∷ [])) (row lineWord (k ∷ [])))
+refused-length n l b =
+    let x = row lineWord (l ∷ []) in
+    let y = row byteWord (b ∷ []) in
+    omega (arith, row-length answerWord n, row-length lineWord l, row-length byteWord b, length-append (row answerWord (n ∷ [])) (x ++ y), length-append x y)
 
 kept-length : (P S k : ℕ) (y : Image) → P ≤ 16 → S ≤ 64 → length (keptText P S k y) ≤ room
 unfolding keptText
@@ -43,19 +48,19 @@ kept-length P S k y hp hs =
     let d = objects S y (P * S) in
     omega (arith, m .1, objects-length S (P * S) y hs (m .0), row-length answerWord 0, row-length keptWord k, row-length phaseWord (get y phase), length-append a (b ++ (c ++ d)), length-append b (c ++ d), length-append c d)
 
-shown-length : (P S : ℕ) (r : Recovered) → P ≤ 16 → S ≤ 64 → length (shown P S r) ≤ room
+shown-length : (P S : ℕ) (log : List ℕ) (r : Recovered) → P ≤ 16 → S ≤ 64 → length (shown P S log r) ≤ room
 unfolding shown
-shown-length P S r hp hs = by (r .verdict)
+shown-length P S log r hp hs = by (r .verdict)
   where
-    by : (v : Verdict) → length (told P S v (r .kept) (r .image)) ≤ room
+    by : (v : Verdict) → length (told P S v (byteOf log v) (r .kept) (r .image)) ≤ room
     by Accepted = kept-length P S (r .kept) (r .image) hp hs
-    by (Refused q) = refused-length (q .number) (q .extra)
+    by (Refused q) = refused-length (q .number) (q .extra) (byteOf log (Refused q))
 
 recovered-length : (log : List ℕ) → length (recoveredText log) ≤ room
 unfolding recoveredText
 recovered-length log =
     let a = asked-bounded log in
-    shown-length (askedOf log .partitions) (askedOf log .slots) (recoverOf log (lent log)) (a .few) (a .narrow)
+    shown-length (askedOf log .partitions) (askedOf log .slots) log (recoverOf log (lent log)) (a .few) (a .narrow)
 
 -- NO REPORT has more than 32,768 bytes
 pub report-length : (log : List ℕ) → length (reportOf log) ≤ room
@@ -87,7 +92,7 @@ reported-done log out after r h p =
     let n : r ≡ length (reportOf log) = omega (arith, p .next) in
     rw (le-leb room (length out) h, e, n)
 
--- what recovery's code answers: a kept length with its image, or a refusal
+-- what recovery's code answers: a kept length with its image, or a refusal with its byte
 module _ (log : List ℕ) (len : ℕ) (r : Recovery) (y : Image) (e : out r y ≡ recoverOf log len) where
   answered : (s : Recovery) → r ≡ s → out s y ≡ recoverOf log len
   answered s q = ap (λ (t : Recovery). out t y) (sym q) ∙ e
@@ -101,17 +106,23 @@ module _ (log : List ℕ) (len : ℕ) (r : Recovery) (y : Image) (e : out r y �
     unfolding size
     kept-some {k} q = omega (arith, any-bytes log len b (sym (ap (λ (z : Recovered). z .verdict) (answered (Kept k) q))) .kept .before .fits)
 
-    pub line-small : {n : Refusal} → r ≡ NotKept n → n .extra ≤ length log + 1
-    line-small {n} q = refused-within (refused-so log len b (n .number) (n .extra) (sym (ap (λ (z : Recovered). z .verdict) (answered (NotKept n) q))))
+    pub line-small : {n : Refusal} {k : ℕ} → r ≡ NotKept n k → n .extra ≤ length log + 1
+    line-small {n} {k} q = refused-within (refused-so log len b (n .number) (n .extra) (sym (ap (λ (z : Recovered). z .verdict) (answered (NotKept n k) q))))
 
-  module _ (P S : ℕ) where
-    pub kept-shown : (k : ℕ) → r ≡ Kept k → keptText P S k y ≡ shown P S (recoverOf log len)
-    unfolding shown
-    kept-shown k q = ap (shown P S) (answered (Kept k) q)
+  pub kept-shown : (P S k : ℕ) → r ≡ Kept k → keptText P S k y ≡ shown P S log (recoverOf log len)
+  unfolding shown
+  kept-shown P S k q = ap (shown P S log) (answered (Kept k) q)
 
-    pub refused-shown : (n : Refusal) → r ≡ NotKept n → refusedText (n .number) (n .extra) ≡ shown P S (recoverOf log len)
+  module _ (n : Refusal) (k : ℕ) (q : r ≡ NotKept n k) (f : byteIn r ≡ byteOf log (recoverOf log len .verdict)) where
+    byte-answered : byteIn (NotKept n k) ≡ byteOf log (Refused n)
+    byte-answered = ap byteIn (sym q) ∙ f ∙ ap (λ (z : Recovered). byteOf log (z .verdict)) (sym (answered (NotKept n k) q))
+
+    pub byte-small : k ≤ limit
+    byte-small = omega (arith, byte-answered, byte-most (n .number) (after (n .extra - 1) log))
+
+    pub refused-shown : (P S : ℕ) → refusedText (n .number) (n .extra) k ≡ shown P S log (recoverOf log len)
     unfolding shown
-    refused-shown n q = ap (shown P S) (answered (NotKept n) q)
+    refused-shown P S = ap (refusedText (n .number) (n .extra)) byte-answered ∙ ap (shown P S log) (answered (NotKept n k) q)
 
 -- the part of the largest image that is lent
 module _ (log : List ℕ) {a : Asked} (e : a ≡ askedOf log) (img : List ℕ) (l : length img ≡ mostWords) where
@@ -127,7 +138,7 @@ module _ (log : List ℕ) {a : Asked} (e : a ≡ askedOf log) (img : List ℕ) (
   pub lent-whole : (a .partitions ≤ 16) × (a .slots ≤ 64) × (0 < length (take (a .words) img) → length (take (a .words) img) ≡ size (a .partitions) (a .slots))
   lent-whole = (bounds .few, bounds .narrow, λ h. words-lent ∙ bounds .whole (omega (arith, words-lent)))
 
-  pub lent-report : length log ≤ mostBytes → shown (a .partitions) (a .slots) (recoverOf log (length (take (a .words) img))) ≡ reportOf log
+  pub lent-report : length log ≤ mostBytes → shown (a .partitions) (a .slots) log (recoverOf log (length (take (a .words) img))) ≡ reportOf log
   unfolding recoveredText
   lent-report h = rw (words-lent, e) (report-short log h)
 

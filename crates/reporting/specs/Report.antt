@@ -16,7 +16,7 @@ use Rattle.lines.specs.Decimal.{decimal}
 use Rattle.model.specs.Acts.{used}
 use Rattle.model.specs.Image.{Image, front, stride, payload, phase, get, size}
 use Rattle.model.specs.Judge.{inLimits}
-use Rattle.journal.specs.Recover.{Recovered, recoverOf}
+use Rattle.journal.specs.Recover.{Recovered, recoverOf, byteOf}
 use Rattle.writer.specs.declared.Written.the-variants.{Done, Full}
 use Rattle.writer.specs.Write.{Wrote, wrote, splice}
 use Rattle.reporting.specs.declared.asked.Asked.{Asked}
@@ -44,6 +44,10 @@ answerWord = 97 ∷ 110 ∷ 115 ∷ 119 ∷ 101 ∷ 114 ∷ []
 -- l i n e
 abbrev pub lineWord : List ℕ
 lineWord = 108 ∷ 105 ∷ 110 ∷ 101 ∷ []
+
+-- b y t e
+abbrev pub byteWord : List ℕ
+byteWord = 98 ∷ 121 ∷ 116 ∷ 101 ∷ []
 
 -- k e p t
 abbrev pub keptWord : List ℕ
@@ -83,22 +87,22 @@ unfoldable pub objects : ℕ → Image → ℕ → List ℕ
 objects S y zero = []
 objects S y (suc j) = objects S y j ++ objectAt S y j
 
--- a refusal: its number and its line, and no more
-unfoldable pub refusedText : ℕ → ℕ → List ℕ
-refusedText n k = row answerWord (n ∷ []) ++ row lineWord (k ∷ [])
+-- a refusal: its number, its line and the byte within it, and no more
+unfoldable pub refusedText : ℕ → ℕ → ℕ → List ℕ
+refusedText n l b = row answerWord (n ∷ []) ++ (row lineWord (l ∷ []) ++ row byteWord (b ∷ []))
 
 -- an accepted log: the kept length, the phase, the objects in use
 unfoldable pub keptText : ℕ → ℕ → ℕ → Image → List ℕ
 keptText P S k y = row answerWord (0 ∷ []) ++ (row keptWord (k ∷ []) ++ (row phaseWord (get y phase ∷ []) ++ objects S y (P * S)))
 
--- by the verdict
-abbrev pub told : ℕ → ℕ → Verdict → ℕ → Image → List ℕ
-told P S Accepted k y = keptText P S k y
-told P S (Refused r) k y = refusedText (r .number) (r .extra)
+-- by the verdict, with the byte beside it
+abbrev pub told : ℕ → ℕ → Verdict → ℕ → ℕ → Image → List ℕ
+told P S Accepted b k y = keptText P S k y
+told P S (Refused r) b k y = refusedText (r .number) (r .extra) b
 
--- what recovery answers, of a heap of P partitions of S slots
-unfoldable pub shown : ℕ → ℕ → Recovered → List ℕ
-shown P S r = told P S (r .verdict) (r .kept) (r .image)
+-- what recovery answers of a log, of a heap of P partitions of S slots
+unfoldable pub shown : ℕ → ℕ → List ℕ → Recovered → List ℕ
+shown P S log r = told P S (r .verdict) (byteOf log (r .verdict)) (r .kept) (r .image)
 
 -- what a first line asks for: P, S and the words of their image, where P and S are in range; else nothing
 abbrev pub nothingAsked : Asked
@@ -131,7 +135,7 @@ lent log = askedOf log .words
 
 -- what is said of a log that is not too long
 unfoldable pub recoveredText : List ℕ → List ℕ
-recoveredText log = shown (askedOf log .partitions) (askedOf log .slots) (recoverOf log (lent log))
+recoveredText log = shown (askedOf log .partitions) (askedOf log .slots) log (recoverOf log (lent log))
 
 -- THE REPORT of a log
 unfoldable pub reportOf : List ℕ → List ℕ

@@ -1,7 +1,8 @@
-// The report of a log, as text: `answer`, `kept`, `phase` and a line for each object in use; `answer` and `line` where the log is refused;
-// `toolong`. Its bytes are a definition of the log, specs/Report.antt's `reportOf`, over the journal's recovery; `report` writes exactly
-// these into the lent bytes (`reported`), for any bytes as log. That no report is longer than ROOM is proved in proofs/Reporting.antt. The
-// image is lent with as many words as the log's heading asks for, so that 2 is answered for P or S alone.
+// The report of a log, as text: `answer`, `kept`, `phase` and a line for each object in use; `answer`, `line` and `byte` where the log is
+// refused, with byte 0 for every number but 3 and 4; `toolong`. Its bytes are a definition of the log, specs/Report.antt's `reportOf`, over the
+// journal's recovery; `report` writes exactly these into the lent bytes (`reported`), for any bytes as log. That no report is longer than ROOM
+// is proved in proofs/Reporting.antt. The image is lent with as many words as the log's heading asks for, so that 2 is answered for P or S
+// alone.
 pub mod asked;
 mod rows;
 
@@ -39,11 +40,11 @@ fn image() -> [u32; WORDS]
 fn put_recovered(out: &mut [u8], img: &mut [u32], log: &[u8], p: usize, s: usize) -> usize
     requires { ⌜ (p ≤ mostPartitions) × (s ≤ mostSlots) × (0 < length (now img) → length (now img) ≡ size p s) ⌝ }
     requires { ⌜ (length (now log) ≤ mostBytes) × (room ≤ length (now out)) ⌝ }
-    ensures { λ r. ⌜ Put (now (out .entry)) (now (out .exit)) 0 (shown p s (recoverOf (now (log .entry)) (length (now (img .entry))))) r ⌝ }
+    ensures { λ r. ⌜ Put (now (out .entry)) (now (out .exit)) 0 (shown p s (now (log .entry)) (recoverOf (now (log .entry)) (length (now (img .entry))))) r ⌝ }
 {
     match recovery::recover(&mut *img, log) {
         Recovery::Kept(k) => put_kept(out, &*img, p, s, k as u32),
-        Recovery::Refused(r) => put_refused(out, r.number, r.extra as u32),
+        Recovery::Refused(r, b) => put_refused(out, r.number, r.extra as u32, b as u32),
     }
 }
 

@@ -94,13 +94,14 @@ pub(crate) fn put_toolong(out: &mut [u8]) -> usize
     put_text(out, 0, b"toolong\n")
 }
 
-// The report of a refusal.
-pub(crate) fn put_refused(out: &mut [u8], n: u32, k: u32) -> usize
+// The report of a refusal: its number, its line and the byte within it.
+pub(crate) fn put_refused(out: &mut [u8], n: u32, l: u32, b: u32) -> usize
     requires { ⌜ room ≤ length (now out) ⌝ }
-    ensures { λ r. ⌜ Put (now (out .entry)) (now (out .exit)) 0 (refusedText n k) r ⌝ }
+    ensures { λ r. ⌜ Put (now (out .entry)) (now (out .exit)) 0 (refusedText n l b) r ⌝ }
 {
     let a = put_row(&mut *out, 0, b"answer", n);
-    put_row(&mut *out, a, b"line", k)
+    let c = put_row(&mut *out, a, b"line", l);
+    put_row(&mut *out, c, b"byte", b)
 }
 
 // The report of an accepted log: k is the kept length, in an image of p partitions of s slots.

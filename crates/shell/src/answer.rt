@@ -34,10 +34,15 @@ pub(crate) fn counted(out: &mut [u8; 4096], at: usize, word: &[u8], n: usize) ->
     end(out, a)
 }
 
-fn refused(out: &mut [u8; 4096], at: usize, r: Refusal) -> usize {
+// A refusal's number and its extra answer, before the line end.
+fn refusal(out: &mut [u8; 4096], at: usize, r: Refusal) -> usize {
     let a = valued(&mut *out, at, b"refused", r.number as u64);
-    let b = number(&mut *out, a, r.extra as u64);
-    end(out, b)
+    number(out, a, r.extra as u64)
+}
+
+fn refused(out: &mut [u8; 4096], at: usize, r: Refusal) -> usize {
+    let a = refusal(&mut *out, at, r);
+    end(out, a)
 }
 
 pub(crate) fn answered(out: &mut [u8; 4096], at: usize, a: Answer) -> usize {
@@ -70,10 +75,15 @@ pub(crate) fn freed(out: &mut [u8; 4096], at: usize, f: Freeing) -> usize {
     }
 }
 
+// A refused recovery's extra answer is the line; the byte within it stands behind.
 pub(crate) fn recovered(out: &mut [u8; 4096], at: usize, r: Recovery) -> usize {
     match r {
         Recovery::Kept(n) => counted(out, at, b"kept", n),
-        Recovery::Refused(f) => refused(out, at, f),
+        Recovery::Refused(f, b) => {
+            let a = refusal(&mut *out, at, f);
+            let c = number(&mut *out, a, b as u64);
+            end(out, c)
+        }
     }
 }
 

@@ -18,7 +18,7 @@ same-length : tie.Need-same-length
 same-length c = search needs
 
 returns : tie.Need-returns
-returns c = let n = c .before .before .before .before in recover-told _ _ _ _ _ (Kept _) _ (c .tell .ensures) (n .n .given .1) (n .before .before .before .before .recover .ensures)
+returns c = let n = c .before .before .before .before in recover-told _ _ _ _ _ _ (Kept _) _ (c .tell .ensures) (n .n .given .1) (n .before .before .before .before .recover .ensures)
 
 enum-known-r : tie.Need-enum-known-r
 enum-known-r c = search needs
@@ -30,7 +30,7 @@ same-length-2 : tie.Need-same-length-2
 same-length-2 c = search needs
 
 returns-2 : tie.Need-returns-2
-returns-2 c = let r = c .before .before .before .before in recover-told _ _ _ _ _ (Refused _) _ (c .tell2 .ensures) (r .r .given .1) (r .before .before .before .before .recover .ensures)
+returns-2 c = let r = c .before .before .before .before in recover-told _ _ _ _ _ _ (Refused _ _) _ (c .tell2 .ensures) (r .r .given .1) (r .before .before .before .before .recover .ensures)
 
 pub heidrunok-recover-spec : {M : Type 1} → statement M
 heidrunok-recover-spec =

@@ -1,6 +1,6 @@
 -- `reporting::put_recovered` meets its contract. Assumes nothing.
 use Rattle.lines.proofs.Printed.{bytes-of}
-use Rattle.reporting.proofs.Reporting.{kept-small, kept-some, line-small, kept-shown, refused-shown}
+use Rattle.reporting.proofs.Reporting.{kept-small, kept-some, line-small, byte-small, kept-shown, refused-shown}
 use Rattle.lines.specs.Print.{Bytes}
 use Rattle.model.proofs.Keys.{sized-length}
 use Rattle.model.specs.Image.{lengthOf}
@@ -23,7 +23,7 @@ cast-put-kept : tie.Need-cast-put-kept
 cast-put-kept c =
     let k = c .before .before .before in
     let r = k .before .before .before .before in
-    omega (arith, kept-small _ _ _ _ (r .recover .ensures) (log-bytes r) (k .k .given .1))
+    omega (arith, kept-small _ _ _ _ (r .recover .ensures .0) (log-bytes r) (k .k .given .1))
 
 put-kept-requires : tie.Need-put-kept-requires
 unfolding lengthOf
@@ -33,7 +33,7 @@ put-kept-requires c κs =
     let b = r .before .before .before .before .before in (
       omega arith,
       omega arith,
-      sized-length _ _ _ (r .recover .kept .0 ∙ b .pre .0 .2 (kept-some _ _ _ _ (r .recover .ensures) (log-bytes r) (k .k .given .1))),
+      sized-length _ _ _ (r .recover .kept .0 ∙ b .pre .0 .2 (kept-some _ _ _ _ (r .recover .ensures .0) (log-bytes r) (k .k .given .1))),
       omega arith,
     )
 
@@ -44,7 +44,13 @@ cast-put-refused : tie.Need-cast-put-refused
 cast-put-refused c =
     let f = c .before .before .before in
     let r = f .before .before .before .before in
-    omega (arith, line-small _ _ _ _ (r .recover .ensures) (log-bytes r) (f .r .given .1))
+    omega (arith, line-small _ _ _ _ (r .recover .ensures .0) (log-bytes r) (f .r .given .1))
+
+cast-put-refused-2 : tie.Need-cast-put-refused-2
+cast-put-refused-2 c =
+    let f = c .before .before .before in
+    let r = f .before .before .before .before in
+    omega (arith, byte-small _ _ _ _ (r .recover .ensures .0) _ _ (f .r .given .1) (r .recover .ensures .1))
 
 put-refused-requires : tie.Need-put-refused-requires
 put-refused-requires c κs = search needs
@@ -59,7 +65,7 @@ returns : tie.Need-returns
 returns c =
     let p = c .before .before in
     let k = p .before .before .before .before in
-    rw (← kept-shown _ _ _ _ (k .before .before .before .before .recover .ensures) _ _ _ (k .k .given .1)) (p .put-kept .ensures)
+    rw (← kept-shown _ _ _ _ (k .before .before .before .before .recover .ensures .0) _ _ _ (k .k .given .1)) (p .put-kept .ensures)
 
 same-length-3 : tie.Need-same-length-3
 same-length-3 c = search needs
@@ -71,7 +77,8 @@ returns-2 : tie.Need-returns-2
 returns-2 c =
     let p = c .before .before in
     let f = p .before .before .before .before in
-    rw (← refused-shown _ _ _ _ (f .before .before .before .before .recover .ensures) _ _ _ (f .r .given .1)) (p .put-refused .ensures)
+    let r = f .before .before .before .before in
+    rw (← refused-shown _ _ _ _ (r .recover .ensures .0) _ _ (f .r .given .1) (r .recover .ensures .1) _ _) (p .put-refused .ensures)
 
 pub put-recovered-spec : {M : Type 1} → statement M
 put-recovered-spec =
@@ -83,6 +90,7 @@ put-recovered-spec =
     put-kept-requires
     enum-known-r
     cast-put-refused
+    cast-put-refused-2
     put-refused-requires
     same-length
     same-length-2
