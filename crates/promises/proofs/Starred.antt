@@ -35,7 +35,7 @@ use Rattle.writer.specs.Record.{rule, opLines, recordOf, headingOf}
 use Rattle.writer.specs.Write.{splice}
 use Rattle.journal.proofs.Demand.{demand-2}
 use Rattle.journal.specs.Log.{logOf, replay, whole, History}
-use Rattle.journal.specs.Recover.{act, headed, feed, feedAll, Recovered, refusal, recovery, answer, recoverOf, byteBy, byteOf}
+use Rattle.journal.specs.Recover.{act, headed, feed, feedAll, refusal, recovery, answer, recoverOf, byteBy, byteOf}
 use Rattle.catalogue.specs.Call as call
 use Rattle.catalogue.specs.Call.{judgeAct, judgeCommit, judgeForeign, formatOf, callBy, commitOf, listingOf}
 use Rattle.promises.specs.Calls.{Call, actOf, calling}
