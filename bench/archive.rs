@@ -1,6 +1,6 @@
 //! What is timed: ordinary Rust, the proved archive as it is now, and (with --cfg before) the archive of an earlier commit, whose functions
 //! are renamed. All through one trait, so that none of them is inlined.
-use crate::catalogue::{self, Closed, Fault, Freed, Name, Object, Operation, Outlist, Refusal};
+use crate::catalogue::{self, Closed, Fault, Freed, Name, Object, Operation, Outlist, Refusal, NAMES, RADIX};
 
 /// A transaction as Rust takes it, and as the archive does: six words an operation.
 pub struct Transaction {
@@ -28,6 +28,10 @@ fn words_of(o: Operation) -> [u32; 6] {
 
 pub trait Side {
     fn name(&self) -> &'static str;
+    /// The multiplier of its reference words, which is the largest S too.
+    fn radix(&self) -> u32 {
+        RADIX
+    }
     fn format(&self, img: &mut [u32], p: u32, s: u32, log: &mut [u8], at: usize) -> Result<usize, Refusal>;
     fn commit(&self, img: &mut [u32], t: &Transaction, log: &mut [u8], at: usize) -> Result<usize, Refusal>;
     fn open(&self, img: &mut [u32], log: &mut [u8], at: usize) -> Result<usize, Refusal>;
@@ -93,6 +97,7 @@ type Out<T> = *mut T;
 /// The twelve functions of an archive, as bindings/c/heidrunok.h has them.
 pub struct Archive {
     name: &'static str,
+    radix: u32,
     format: unsafe extern "C" fn(Words, usize, u32, u32, Bytes, usize, usize, Out<usize>, Out<usize>) -> u32,
     commit: unsafe extern "C" fn(Words, usize, *const [u32; 6], usize, Bytes, usize, usize, Out<usize>, Out<usize>) -> u32,
     open: unsafe extern "C" fn(Words, usize, Bytes, usize, usize, Out<usize>, Out<usize>) -> u32,
@@ -104,7 +109,7 @@ pub struct Archive {
     recover: unsafe extern "C" fn(Words, usize, *const u8, usize, Out<usize>, Out<usize>, Out<usize>) -> u32,
     read: unsafe extern "C" fn(*const u32, usize, u32, u32, Out<u32>, Out<[u32; 4]>) -> u32,
     ask: unsafe extern "C" fn(*const u32, usize, u32, u32, Out<bool>) -> u32,
-    outlist: unsafe extern "C" fn(*const u32, usize, u32, Out<usize>, Out<[u32; 256]>) -> u32,
+    outlist: unsafe extern "C" fn(*const u32, usize, u32, Out<usize>, Out<[u32; NAMES]>) -> u32,
 }
 
 macro_rules! archive {
@@ -132,10 +137,11 @@ macro_rules! archive {
             fn $recover(i: Words, w: usize, l: *const u8, b: usize, n: Out<usize>, x: Out<usize>, y: Out<usize>) -> u32;
             fn $read(i: *const u32, w: usize, p: u32, s: u32, v: Out<u32>, f: Out<[u32; 4]>) -> u32;
             fn $ask(i: *const u32, w: usize, p: u32, s: u32, y: Out<bool>) -> u32;
-            fn $outlist(i: *const u32, w: usize, t: u32, h: Out<usize>, n: Out<[u32; 256]>) -> u32;
+            fn $outlist(i: *const u32, w: usize, t: u32, h: Out<usize>, n: Out<[u32; NAMES]>) -> u32;
         }
         Archive {
             name: $name,
+            radix: RADIX,
             format: $format,
             commit: $commit,
             open: $open,
@@ -158,10 +164,11 @@ const NOW: Archive = archive!(
     heidrunok_hold heidrunok_drop heidrunok_recover heidrunok_read heidrunok_ask heidrunok_outlist
 );
 
+/// Up to W5 (cfg w5) a partition had at most 64 slots, a reference word was 64p + s + 1, and an outlist wrote 256 of the words lent here.
 #[cfg(before)]
 const BEFORE: Archive = Archive {
-    #[cfg(w4)]
-    recover: recover_w4,
+    #[cfg(w5)]
+    radix: 64,
     ..archive!(
         "before",
         before_heidrunok_format before_heidrunok_commit before_heidrunok_open before_heidrunok_trace before_heidrunok_close
@@ -170,27 +177,13 @@ const BEFORE: Archive = Archive {
     )
 };
 
-/// Recovery by an archive of W4, which says no byte: where it refuses, ordinary Rust's byte is put there, so that all else is compared.
-#[cfg(w4)]
-unsafe extern "C" fn recover_w4(i: Words, w: usize, l: *const u8, b: usize, n: Out<usize>, x: Out<usize>, y: Out<usize>) -> u32 {
-    extern "C" {
-        #[allow(clashing_extern_declarations)]
-        fn before_heidrunok_recover(i: Words, w: usize, l: *const u8, b: usize, n: Out<usize>, x: Out<usize>) -> u32;
-    }
-    let number = before_heidrunok_recover(i, w, l, b, n, x);
-    if number != 0 {
-        let log = std::slice::from_raw_parts(l, b);
-        *y = catalogue::recover(&mut vec![0; w], log).map_or_else(|f| f.byte, |_| 0);
-    }
-    number
-}
-
-/// Rust first: what the others are held to.
-pub fn sides() -> Vec<&'static dyn Side> {
+/// All that have partitions of so many slots. Rust first: what the others are held to.
+pub fn sides(slots: usize) -> Vec<&'static dyn Side> {
     #[cfg(before)]
-    return vec![&Rust, &BEFORE, &NOW];
+    let all: [&dyn Side; 3] = [&Rust, &BEFORE, &NOW];
     #[cfg(not(before))]
-    return vec![&Rust, &NOW];
+    let all: [&dyn Side; 2] = [&Rust, &NOW];
+    all.into_iter().filter(|s| slots <= s.radix() as usize).collect()
 }
 
 fn told<T>(number: u32, extra: usize, answer: T) -> Result<T, Refusal> {
@@ -205,6 +198,9 @@ fn told<T>(number: u32, extra: usize, answer: T) -> Result<T, Refusal> {
 impl Side for Archive {
     fn name(&self) -> &'static str {
         self.name
+    }
+    fn radix(&self) -> u32 {
+        self.radix
     }
     fn format(&self, img: &mut [u32], p: u32, s: u32, log: &mut [u8], at: usize) -> Result<usize, Refusal> {
         let (mut n, mut x) = (0, 0);
@@ -264,7 +260,7 @@ impl Side for Archive {
         told(number, 0, yes)
     }
     fn outlist(&self, img: &[u32], t: u32) -> Result<Outlist, Refusal> {
-        let mut o = Outlist { held: 0, names: [0; 256] };
+        let mut o = Outlist { held: 0, names: [0; NAMES] };
         let number = unsafe { (self.outlist)(img.as_ptr(), img.len(), t, &mut o.held, &mut o.names) };
         told(number, 0, o)
     }

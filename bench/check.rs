@@ -1,8 +1,13 @@
 //! All sides give the same answers: on the report's logs, on cut and altered ones, and call by call on random heaps.
-use crate::archive::{sides, Transaction};
-use crate::catalogue::{Fault, Name, Operation, Refusal, FLAGS, FRONT, STRIDE};
-use crate::heaps::{self, Random};
+use crate::archive::{self, Side, Transaction};
+use crate::catalogue::{Fault, Name, Operation, Refusal, EDITIONS, FLAGS, FRONT, SLOTS, STRIDE};
+use crate::heaps::{self, Random, Size};
 use std::fmt::Debug;
+
+/// Those that have today's images.
+fn sides() -> Vec<&'static dyn Side> {
+    archive::sides(SLOTS)
+}
 
 /// The common answer of all sides, each with its own image and log, which agree afterwards too.
 struct Lent {
@@ -58,8 +63,8 @@ fn words_of(log: &[u8]) -> usize {
     let text = String::from_utf8_lossy(log);
     let fields: Vec<&str> = text.lines().next().unwrap_or("").split('\t').collect();
     match fields[..] {
-        ["heap", "1" | "2" | "3", p, s] => {
-            let n = |x: &str| x.parse().unwrap_or(1usize).min(100);
+        ["heap", "1" | "2" | "3" | "4", p, s] => {
+            let n = |x: &str| x.parse().unwrap_or(1usize).min(200);
             FRONT + STRIDE * n(p) * n(s)
         }
         _ => 125,
@@ -99,7 +104,7 @@ fn altered(r: &mut Random, log: &[u8]) -> Vec<u8> {
 pub fn reports(folder: &str) {
     let mut r = Random::new(5);
     let (mut logs, mut others) = (0, 0);
-    let mut bytes = [[0usize; 21]; 2]; // of refusals 3 and 4
+    let mut bytes = [[0usize; 22]; 2]; // of refusals 3 and 4
     for entry in std::fs::read_dir(folder).unwrap() {
         let path = entry.unwrap().path();
         if path.extension().map_or(true, |e| e != "log") {
@@ -109,7 +114,7 @@ pub fn reports(folder: &str) {
         let want = std::fs::read_to_string(path.with_extension("report")).unwrap();
         assert_eq!(report(&log), want, "{path:?}");
         logs += 1;
-        for words in [0, 68, 69, 93, 125, heaps::WORDS] {
+        for words in [0, 68, 69, 93, 125, heaps::SIZES[0].words(), heaps::SIZES[1].words()] {
             let _ = recovered(&log, words);
         }
         for _ in 0..if log.len() > 32768 { 0 } else { 200 } {
@@ -120,7 +125,56 @@ pub fn reports(folder: &str) {
         }
     }
     println!("recovery: {logs} logs of {folder} agree with their reports and in every word, {others} cut or altered ones agree");
-    println!("of these refused with 3 at bytes 0 to 20: {:?}, with 4: {:?}", bytes[0], bytes[1]);
+    println!("of these refused with 3 at bytes 0 to 21: {:?}, with 4: {:?}", bytes[0], bytes[1]);
+}
+
+/// A body of a keyword and so many numbers that has a length, if there is one: all numbers of one digit but for the k-th, and those after it
+/// where its ten digits do not do.
+fn body(keyword: &str, numbers: usize, length: usize, k: usize) -> Option<String> {
+    let mut more = length.checked_sub(keyword.len() + 2 * numbers)?;
+    let mut text = keyword.to_string();
+    for i in 0..numbers {
+        let digits = if i < k { 0 } else { more.min(9) };
+        more -= digits;
+        text += &format!("\t{}", &"4294967295"[..=digits]);
+    }
+    (more == 0).then_some(text)
+}
+
+/// Bodies of 19 to 23 bytes, each with whether it is the last number that is long.
+fn bodies(keyword: &str, numbers: usize) -> Vec<(String, bool)> {
+    let all = (19..24).flat_map(|length| (0..numbers).map(move |k| (length, k)));
+    all.filter_map(|(length, k)| body(keyword, numbers, length, k).map(|text| (text, k + 1 == numbers))).collect()
+}
+
+/// Such bodies under every edition: as a line, as a tail, headings as a later line and as the first. Behind their limit they are refused, and
+/// at the limit's own byte where the last number is the long one.
+pub fn limits() {
+    let mut tried = 0;
+    let mut refused = |log: String, number: u32, long: Option<usize>, last: bool| {
+        let fault = recovered(log.as_bytes(), Size { p: 2, s: 4 }.words()).0.err().filter(|f| f.number == number);
+        assert_eq!(fault.is_some(), long.is_some(), "{log:?}");
+        assert!(!last || fault.map(|f| f.byte) == long, "{log:?}");
+        tried += 1;
+    };
+    let headings: Vec<String> = (1..=EDITIONS.len()).map(|e| format!("heap\t{e}")).collect();
+    for (heading, limit) in headings.iter().zip(EDITIONS.map(|t| t.bytes)) {
+        let long = |body: &str| (body.len() > limit).then_some(limit);
+        for (keyword, numbers) in [("new", 3), ("set", 5), ("clr", 3), ("val", 3), ("root", 3), ("hold", 3)] {
+            for (body, last) in bodies(keyword, numbers) {
+                for end in ["", "\n"] {
+                    refused(format!("{heading}\t2\t4\n{body}{end}"), 4, long(&body), last);
+                }
+            }
+        }
+        for (body, last) in headings.iter().flat_map(|later| bodies(later, 2)) {
+            refused(format!("{heading}\t2\t4\n{body}\n"), 4, long(&body), last);
+        }
+        for (body, last) in bodies(heading, 2) {
+            refused(format!("{body}\n"), 3, long(&body), last);
+        }
+    }
+    println!("limits: {tried} lines and tails of 19 to 23 bytes agree, headings among them");
 }
 
 /// Any operation, its numbers sometimes too large.
@@ -150,7 +204,7 @@ fn any_operation(r: &mut Random, p: usize, s: usize) -> Operation {
 /// A transaction that is often accepted, or any operations, perhaps too many or none.
 fn any_transaction(r: &mut Random, img: &[u32], p: usize, s: usize) -> Transaction {
     let sound = crate::catalogue::read(img, Name { partition: p as u32, slot: 0 }) != Err(Refusal { number: 1, extra: 0 });
-    if sound && (p, s) == (heaps::P, heaps::S) && r.below(2) == 0 {
+    if sound && p == 16 && r.below(2) == 0 {
         let n = 1 + r.below(33);
         return Transaction::new(heaps::transaction(r, img, n, 10));
     }
@@ -161,7 +215,7 @@ fn any_transaction(r: &mut Random, img: &[u32], p: usize, s: usize) -> Transacti
 /// Images that calls alone do not come to: perhaps not sound; or sound, with the count at the allowance, or all clean and a mark taken away.
 fn any_image(r: &mut Random, lent: &mut Lent, p: usize, s: usize) {
     if r.below(150) == 0 {
-        let (i, v) = (r.below(lent.image().len()), r.below(70) as u32);
+        let (i, v) = (r.below(lent.image().len()), r.below(SLOTS + 6) as u32);
         lent.bend(|img| img[i] = v);
     }
     if lent.image()[2] == 1 && r.below(12) == 0 {
@@ -217,12 +271,12 @@ fn any_call(r: &mut Random, lent: &mut Lent, p: usize, s: usize, at: usize) -> (
     }
 }
 
-/// Heaps of several sizes, sixty calls on each, and the recovery of its log.
+/// Heaps of several sizes, sixty calls on each, and the recovery of its log under the heading of every edition.
 pub fn calls(heaps: usize) {
     let mut r = Random::new(11);
     let mut tally = [0usize; 18];
     for _ in 0..heaps {
-        let (p, s) = r.pick(&[(1, 1), (2, 4), (3, 5), (16, 64), (4, 64)]);
+        let (p, s) = r.pick(&[(1, 1), (2, 4), (3, 5), (16, 64), (4, 64), (16, 128), (4, 128), (3, 100)]);
         let mut lent = Lent::new(FRONT + STRIDE * p * s, 20000);
         let mut at = lent.all("format", |k, img, log| sides()[k].format(img, p as u32, s as u32, log, 0)).unwrap();
         for _ in 0..60 {
@@ -232,7 +286,13 @@ pub fn calls(heaps: usize) {
             tally[number as usize] += 1;
             at += length;
         }
-        let _ = recovered(&lent.logs[0][..at], lent.image().len());
+        let log = &mut lent.logs[0][..at];
+        let newest = recovered(log, FRONT + STRIDE * p * s).0;
+        for edition in b'1'..b'4' {
+            log[5] = edition;
+            let older = recovered(log, FRONT + STRIDE * p * s).0;
+            assert_eq!(older, if s > 64 { Err(Fault { number: 2, line: 1, byte: 0 }) } else { newest });
+        }
     }
     println!("calls: {} agree in answer, image and log; accepted and refused by number: {tally:?}", 60 * heaps);
 }

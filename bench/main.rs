@@ -6,8 +6,8 @@ mod heaps;
 mod timing;
 
 use archive::{Side, Transaction};
-use catalogue::{Name, FRONT, STRIDE};
-use heaps::{Random, P, S, WORDS};
+use catalogue::{Name, FRONT, RADIX, STRIDE};
+use heaps::{Random, Size, SIZES};
 use std::hint::black_box;
 
 /// What every call is lent.
@@ -18,7 +18,7 @@ struct Lent {
 
 impl Lent {
     fn new() -> Self {
-        Lent { img: Vec::with_capacity(WORDS), log: vec![46; 65536] }
+        Lent { img: Vec::new(), log: vec![46; 65536] }
     }
 
     fn fill(&mut self, img: &[u32]) {
@@ -27,18 +27,23 @@ impl Lent {
     }
 }
 
+fn names(sides: &[&dyn Side]) -> Vec<&'static str> {
+    sides.iter().map(|s| s.name()).collect()
+}
+
 // ---- recovery
 
 /// Recovery of a log, of one of as many lines and bytes that are `val` alone, and the difference: what the acts take, the line reader aside.
 fn recovery_of(sides: &[&dyn Side], label: &str, log: &heaps::Log, rounds: usize) {
-    let values = heaps::values(&log.bytes);
+    let like = Size { p: 16, s: log.image[1] as usize };
+    let values = heaps::values(like, &log.bytes);
     let logs = [&log.bytes, &values];
-    let mut images = [log.image.clone(), vec![0; WORDS]];
+    let mut images = [log.image.clone(), vec![0; like.words()]];
     for side in sides {
         for (log, img) in logs.iter().zip(&mut images) {
             assert_eq!(side.recover(img, log), Ok(log.len()));
         }
-        assert_eq!(images[0], log.image);
+        assert_eq!(images[0], heaps::said_by(side.radix(), &log.image));
     }
     let n = sides.len();
     let times = timing::rounds(2 * n, rounds, |k, _| {
@@ -54,27 +59,27 @@ fn recovery_of(sides: &[&dyn Side], label: &str, log: &heaps::Log, rounds: usize
     timing::row("the difference", &acts);
 }
 
-fn recovery(sides: &[&dyn Side], names: &[&str], rounds: usize) {
-    println!("\n## Recovery, the whole log into one image\n");
-    timing::head("log", names);
+/// The kinds of logs, each with more in it than the one before: phases, local collections, sessions.
+const KINDS: [&str; 4] = ["commits", "with phases", "with phases and locals", "with phases, locals and sessions"];
+
+fn recovery(size: Size, rounds: usize) {
+    let sides = archive::sides(size.s);
+    println!("\n## Recovery, the whole log into one image, {size}\n");
+    timing::head("log", &names(&sides));
     let few = |lines: usize| (rounds * 1000 / lines).max(31);
-    for (kind, phases, locals, sessions) in [
-        ("commits", false, false, false),
-        ("with phases", true, false, false),
-        ("with phases and locals", true, true, false),
-        ("with phases, locals and sessions", true, true, true),
-    ] {
+    for (k, kind) in KINDS.iter().enumerate() {
         for lines in [1_000, 10_000, 100_000] {
-            let log = heaps::log(lines as u64, lines, phases, locals, sessions);
+            let log = heaps::log(size, lines, k > 0, k > 1, k > 2);
             let counted = [(log.phases, "phases"), (log.traces, "traces"), (log.locals, "locals"), (log.sessions, "holds and drops")];
             let parts: String = counted.iter().filter(|(n, _)| *n > 0).map(|(n, of)| format!(", {n} {of}")).collect();
             let label = format!("{kind}, {} lines, {} bytes ({} objects{parts})", log.lines, log.bytes.len(), log.objects());
-            recovery_of(sides, &label, &log, few(lines));
+            recovery_of(&sides, &label, &log, few(lines));
         }
     }
-    let log = heaps::chain_log(1_000);
-    let label = format!("phases over a reverse chain of 64, {} lines, {} bytes ({} traces)", log.lines, log.bytes.len(), log.traces);
-    recovery_of(sides, &label, &log, few(1_000));
+    let log = heaps::chain_log(size.s, 1_000);
+    let (lines, bytes, traces) = (log.lines, log.bytes.len(), log.traces);
+    let label = format!("phases over a reverse chain of {}, {lines} lines, {bytes} bytes ({traces} traces)", size.s);
+    recovery_of(&sides, &label, &log, few(1_000));
 }
 
 // ---- single calls
@@ -85,9 +90,12 @@ struct Case {
     held: Vec<u32>,
     opened: Vec<u32>,
     closing: Vec<u32>,
+    /// A chain over half the places, and one that is the whole of a heap of one partition.
     chains: [Vec<u32>; 2],
     one: Transaction,
     many: Transaction,
+    /// The partition of the long chain whose last object a root names.
+    top: u32,
     traced: u32,
     loose: u32,
     object: Name,
@@ -95,31 +103,39 @@ struct Case {
     lost: Name,
 }
 
-/// Of the partitions the one for which most is counted.
-fn most(count: impl Fn(usize) -> usize) -> u32 {
-    (0..P).max_by_key(|&q| count(q)).unwrap() as u32
+/// The names of a heap's objects: those to which a root leads, and those that are lost.
+fn led_and_lost(img: &[u32]) -> (Vec<Name>, Vec<Name>) {
+    let reached = heaps::reached(img);
+    let (led, lost): (Vec<usize>, Vec<usize>) = heaps::places(img, true).iter().partition(|j| reached.contains(j));
+    let names = |places: Vec<usize>| places.into_iter().map(|j| Size::of(img).name_of(j)).collect();
+    (names(led), names(lost))
 }
 
-fn case(seed: u64) -> Case {
+fn case(size: Size, seed: u64) -> Case {
     let mut r = Random::new(1000 + seed);
     let mut log = vec![0; 4096];
-    let shut = heaps::heap(seed);
+    let most = |count: &dyn Fn(usize) -> usize| (0..size.p).max_by_key(|&q| count(q)).unwrap() as u32; // of the partitions
+    let some_lost = |img: &Vec<u32>| !led_and_lost(img).1.is_empty(); // not in every small heap
+    let shut = (0..).map(|k| heaps::heap(size, seed + 1000 * k)).find(some_lost).unwrap();
+    let (led, lost) = led_and_lost(&shut);
     let mut opened = shut.clone();
     catalogue::open(&mut opened, &mut log, 0).unwrap();
     let mut closing = opened.clone();
     while let Some(q) = heaps::unclean(&closing) {
         catalogue::trace(&mut closing, q as u32, &mut log, 0).unwrap();
     }
-    let used: Vec<Name> = heaps::places(&shut, true).into_iter().map(heaps::name_of).collect();
+    let used: Vec<Name> = heaps::places(&shut, true).into_iter().map(|j| size.name_of(j)).collect();
     let mut held = shut.clone();
     catalogue::hold(&mut held, HANDLE, used[used.len() / 2], &mut log, 0).unwrap();
-    let (led, lost): (Vec<Name>, Vec<Name>) = used.iter().partition(|&&n| catalogue::ask(&shut, n) == Ok(true));
+    let marked = |q: usize| (0..size.s).filter(|s| opened[FRONT + STRIDE * (q * size.s + s)] == 2).count();
+    let freed = |q: usize| catalogue::local(&mut shut.clone(), q as u32, &mut [0; 64], 0).unwrap().freed;
     Case {
-        chains: [heaps::chain(P, heaps::HALF), heaps::chain(1, S)],
+        chains: [heaps::chain(size, size.half()), heaps::chain(Size { p: 1, ..size }, size.s)],
         one: Transaction::new(heaps::transaction(&mut r, &shut, 1, 1)),
         many: Transaction::new(heaps::transaction(&mut r, &shut, 32, 8)),
-        traced: most(|q| (0..S).filter(|s| opened[FRONT + STRIDE * (q * S + s)] == 2).count()),
-        loose: most(|q| catalogue::local(&mut shut.clone(), q as u32, &mut [0; 64], 0).unwrap().freed),
+        top: (size.half() / size.s - 1) as u32,
+        traced: most(&marked),
+        loose: most(&freed),
         object: r.pick(&used),
         led: r.pick(&led),
         lost: r.pick(&lost),
@@ -142,11 +158,12 @@ const AT: usize = 100;
 /// The handle that is used.
 const HANDLE: u32 = 31;
 
-/// The partition of the long chain whose last object a root names.
-const TOP: u32 = (heaps::HALF / S - 1) as u32;
-
 const CALLS: [Call; 16] = [
-    Call { label: "format", on: |c| &c.shut, make: |s, l, _| black_box(s.format(&mut l.img, P as u32, S as u32, &mut l.log, AT)).is_ok() },
+    Call {
+        label: "format",
+        on: |c| &c.shut,
+        make: |s, l, c| black_box(s.format(&mut l.img, c.shut[0], c.shut[1], &mut l.log, AT)).is_ok(),
+    },
     Call { label: "commit of 1", on: |c| &c.shut, make: |s, l, c| black_box(s.commit(&mut l.img, &c.one, &mut l.log, AT)).is_ok() },
     Call { label: "commit of 32", on: |c| &c.shut, make: |s, l, c| black_box(s.commit(&mut l.img, &c.many, &mut l.log, AT)).is_ok() },
     Call { label: "open", on: |c| &c.shut, make: |s, l, _| black_box(s.open(&mut l.img, &mut l.log, AT)).is_ok() },
@@ -156,12 +173,12 @@ const CALLS: [Call; 16] = [
         make: |s, l, c| black_box(s.trace(&mut l.img, c.traced, &mut l.log, AT)).is_ok(),
     },
     Call {
-        label: "trace, reverse chain of 64 among 512 objects",
+        label: "trace, reverse chain of S in a heap half full",
         on: |c| &c.chains[0],
-        make: |s, l, _| black_box(s.trace(&mut l.img, TOP, &mut l.log, AT)).is_ok(),
+        make: |s, l, c| black_box(s.trace(&mut l.img, c.top, &mut l.log, AT)).is_ok(),
     },
     Call {
-        label: "trace, reverse chain of 64 alone (P = 1)",
+        label: "trace, reverse chain of S alone (P = 1)",
         on: |c| &c.chains[1],
         make: |s, l, _| black_box(s.trace(&mut l.img, 0, &mut l.log, AT)).is_ok(),
     },
@@ -183,21 +200,24 @@ const CALLS: [Call; 16] = [
 /// So many heaps make a round: where the counter is coarse, one call is too short to be timed.
 const BATCH: usize = 8;
 
-fn calls(sides: &[&dyn Side], names: &[&str], rounds: usize) {
-    println!("\n## Single calls, P = 16, S = 64, 512 objects; 64 heaps in turn\n");
-    timing::head("call", names);
+fn calls(size: Size, rounds: usize) {
+    let sides = archive::sides(size.s);
+    println!("\n## Single calls, {size}, {} objects; 64 heaps in turn\n", size.half());
+    timing::head("call", &names(&sides));
     let counter = timing::Counter::new();
-    let cases: Vec<Case> = (0..64).map(case).collect();
+    let cases: Vec<Case> = (0..64).map(|seed| case(size, seed)).collect();
     let mut lent = Lent::new();
     for call in &CALLS {
+        let of = |side: &&dyn Side| cases.iter().map(|c| heaps::said_by(side.radix(), (call.on)(c))).collect();
+        let images: Vec<Vec<Vec<u32>>> = sides.iter().map(of).collect();
         let times = timing::rounds(sides.len(), rounds, |k, round| {
             let mut sum = 0.0;
             for i in 0..BATCH {
-                let case = &cases[(BATCH * round + i) % cases.len()];
-                lent.fill((call.on)(case));
+                let i = (BATCH * round + i) % cases.len();
+                lent.fill(&images[k][i]);
                 let mut good = false;
-                sum += counter.short(|| good = (call.make)(black_box(sides[k]), &mut lent, case));
-                assert!(good, "{} by {}", call.label, names[k]);
+                sum += counter.short(|| good = (call.make)(black_box(sides[k]), &mut lent, &cases[i]));
+                assert!(good, "{} by {}", call.label, sides[k].name());
             }
             sum / BATCH as f64
         });
@@ -210,41 +230,52 @@ fn calls(sides: &[&dyn Side], names: &[&str], rounds: usize) {
 /// So many heaps, since making them is what takes time where instructions are counted.
 const COUNTED: usize = 2;
 
-/// One call by one side on some heaps, for a counter of instructions around the whole program; or, by no side, all but the call. Without a
-/// call: what there is to count.
-fn counts(sides: &[&dyn Side], call: Option<&Call>, side: &str) {
-    let Some(call) = call else {
-        println!("{COUNTED}");
-        return CALLS.iter().for_each(|c| println!("{}", c.label));
-    };
+/// What there is to count: how many heaps, then the size's number, the sides that have it and the call.
+fn to_count() {
+    println!("{COUNTED}");
+    for (k, size) in SIZES.iter().enumerate() {
+        for call in &CALLS {
+            println!("{k}\t{}\t{}\t{size}, {}", names(&archive::sides(size.s)).join(" "), call.label, call.label);
+        }
+    }
+}
+
+/// One call by one side on some heaps, for a counter of instructions around the whole program; or, by no side, all but the call.
+fn counts(size: Size, call: &Call, side: &str) {
+    let side = archive::sides(size.s).into_iter().find(|s| s.name() == side);
+    let radix = side.map_or(RADIX, |s| s.radix());
     let mut lent = Lent::new();
-    for case in (0..COUNTED as u64).map(case) {
-        lent.fill((call.on)(&case));
-        if let Some(side) = sides.iter().find(|s| s.name() == side) {
-            assert!((call.make)(*side, &mut lent, &case));
+    for case in (0..COUNTED as u64).map(|seed| case(size, seed)) {
+        lent.fill(&heaps::said_by(radix, (call.on)(&case)));
+        if let Some(side) = side {
+            assert!((call.make)(side, &mut lent, &case));
         }
     }
 }
 
 fn main() {
     let args: Vec<String> = std::env::args().collect();
-    let sides = archive::sides();
-    let names: Vec<&str> = sides.iter().map(|s| s.name()).collect();
-    let rounds = args.get(2).and_then(|x| x.parse().ok()).unwrap_or(501);
-    match args.get(1).map(String::as_str) {
-        Some("check") => {
-            check::reports(&args[2]);
+    let args: Vec<&str> = args.iter().skip(1).map(String::as_str).collect();
+    match args[..] {
+        ["check", folder] => {
+            check::reports(folder);
+            check::limits();
             check::calls(4000);
         }
-        Some("recovery") => recovery(&sides, &names, rounds),
-        Some("calls") => calls(&sides, &names, rounds),
-        Some("counts") => {
-            let call = args.get(2).map(|label| CALLS.iter().find(|c| c.label == label).unwrap());
-            counts(&sides, call, args.get(3).map_or("", |side| side));
+        [what @ ("all" | "recovery" | "calls"), rounds] => {
+            let rounds = rounds.parse().unwrap();
+            if what != "calls" {
+                SIZES[..2].iter().for_each(|&size| recovery(size, rounds));
+            }
+            if what != "recovery" {
+                SIZES.iter().for_each(|&size| calls(size, rounds));
+            }
         }
-        _ => {
-            recovery(&sides, &names, rounds);
-            calls(&sides, &names, rounds);
+        ["counts"] => to_count(),
+        ["counts", size, call, side] => {
+            let call = CALLS.iter().find(|c| c.label == call).unwrap();
+            counts(SIZES[size.parse::<usize>().unwrap()], call, side);
         }
+        _ => panic!("bench/run says what there is"),
     }
 }

@@ -1,4 +1,5 @@
-/* What only C can do: zeroed operations, words and places of any kind; and where in a line a recovery is refused. Prints each check that fails; its status is 0 where none does. */
+/* What only C can do: zeroed operations, words and places of any kind; the largest image and its names as numbers; and where in a line a
+ * recovery is refused. Prints each check that fails; its status is 0 where none does. */
 #include "heidrunok.h"
 #include <stdio.h>
 #include <string.h>
@@ -82,14 +83,17 @@ static bool fails(const char *text, uint32_t number, size_t line, size_t byte) {
 /* Where in the line: 3 asks for a heading, 4 for any line, or for any other than a heading where the line is the last and has no end. */
 static void faults(void) {
     size_t length = 99, line = 99, byte = 99;
-    static const char accepted[] = "heap\t3\t2\t4\nunroot\t0\nend\t1\nh";
+    static const char accepted[] = "heap\t4\t2\t4\nunroot\t0\nend\t1\nnew\t15\t127\t4294967295";
     CHECK(fails("", 3, 1, 0));
     CHECK(fails("\n", 3, 1, 0));
     CHECK(fails("heap\t3\t2\t4", 3, 1, 10));
-    CHECK(fails("heap\t4\t2\t4\n", 3, 1, 5));
+    CHECK(fails("heap\t5\t2\t4\n", 3, 1, 5));
+    CHECK(fails("heap\t3\t4294967295\t123\n", 3, 1, 20));
+    CHECK(fails("heap\t4\t4294967295\t1234\n", 3, 1, 21));
     CHECK(fails("hold\t0\t0\t0\n", 3, 1, 1));
     CHECK(fails("heap\t3\t2\t4\nset\t0\t0\t0\t4294967295\t0\n", 4, 2, 18));
     CHECK(fails("heap\t3\t2\t4\nnew\t15\t127\t4294967295\n", 4, 2, 20));
+    CHECK(fails("heap\t4\t2\t4\nnew\t15\t1270\t4294967295\n", 4, 2, 21));
     CHECK(fails("heap\t3\t2\t4\nend\t01\n", 4, 2, 5));
     CHECK(fails("heap\t3\t2\t4\nend\t4294967296\n", 4, 2, 13));
     CHECK(fails("heap\t3\t2\t4\nhe\n", 4, 2, 2));
@@ -101,10 +105,29 @@ static void faults(void) {
     CHECK(length == 26 && line == 0 && byte == 0);
 }
 
+/* The largest image: its last object as a number, in a field and in an outlist; a slot more is too many, in a log of edition 3 the 65th. */
+static void largest(void) {
+    static uint32_t words[HEIDRUNOK_WORDS(16, 128)];
+    size_t length = 99, extra = 99, held = 99, line = 99, byte = 99;
+    uint32_t payload = 99, fields[4], names[HEIDRUNOK_NAMES];
+    const size_t n = sizeof words / sizeof *words;
+    const heidrunok_operation ops[] = {heidrunok_new(0, 0, 1), heidrunok_new(15, 127, UINT32_MAX), heidrunok_set(0, 0, 3, 15, 127)};
+    const uint8_t older[] = "heap\t3\t16\t128\n";
+    CHECK(n == 14405);
+    CHECK(heidrunok_format(words, n, 16, 129, log_buffer, sizeof log_buffer, 0, &length, &extra) == 2 && length == 0);
+    CHECK(heidrunok_format(words, n, 16, 128, log_buffer, sizeof log_buffer, 0, &length, &extra) == 0 && length == 14);
+    CHECK(heidrunok_commit(words, n, ops, 3, log_buffer, sizeof log_buffer, 14, &length, &extra) == 0 && length == 55);
+    CHECK(memcmp(log_buffer, "heap\t4\t16\t128\n", 14) == 0 && memcmp(log_buffer + 24, "new\t15\t127\t4294967295\n", 22) == 0);
+    CHECK(heidrunok_read(words, n, 0, 0, &payload, fields) == 0 && payload == 1 && fields[3] == 15 * HEIDRUNOK_RADIX + 127 + 1);
+    CHECK(heidrunok_outlist(words, n, 0, &held, names) == 0 && held == 1 && names[0] == fields[3] && names[1] == 0);
+    CHECK(heidrunok_recover(words, n, log_buffer, 69, &length, &line, &byte) == 0 && length == 69 && words[1] == 128);
+    CHECK(heidrunok_recover(words, n, older, sizeof older - 1, &length, &line, &byte) == 2 && length == 0 && line == 1 && byte == 0);
+}
+
 /* Words of no sound image: every call but format and recover says 1, and the questions answer zeros. */
 static void unsound(void) {
     size_t length = 99, extra = 99, freed = 99, held = 99;
-    uint32_t traces = 99, payload = 99, fields[4] = {9, 9, 9, 9}, names[HEIDRUNOK_NAMES];
+    uint32_t traces = 99, payload = 99, fields[4] = {9, 9, 9, 9}, names[HEIDRUNOK_NAMES + 1];
     const uint32_t zeros[HEIDRUNOK_NAMES] = {0};
     bool yes = true;
     heidrunok_operation op = heidrunok_new(0, 0, 1);
@@ -122,7 +145,8 @@ static void unsound(void) {
     CHECK(heidrunok_drop(img, WORDS, 0, log_buffer, sizeof log_buffer, 11, &length, &extra) == 1 && length == 0 && extra == 0);
     CHECK(heidrunok_read(img, WORDS, 0, 0, &payload, fields) == 1 && payload == 0 && memcmp(fields, zeros, sizeof fields) == 0);
     CHECK(heidrunok_ask(img, WORDS, 0, 0, &yes) == 1 && !yes);
-    CHECK(heidrunok_outlist(img, WORDS, 0, &held, names) == 1 && held == 0 && memcmp(names, zeros, sizeof names) == 0);
+    CHECK(heidrunok_outlist(img, WORDS, 0, &held, names) == 1 && held == 0 && memcmp(names, zeros, sizeof zeros) == 0);
+    CHECK(names[HEIDRUNOK_NAMES] == UINT32_MAX);
     CHECK(kept());
     CHECK(fails("", 3, 1, 0));
 }
@@ -136,5 +160,6 @@ int main(void) {
     handles();
     faults();
     unsound();
+    largest();
     return failed != 0;
 }

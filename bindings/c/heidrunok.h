@@ -22,12 +22,14 @@
 extern "C" {
 #endif
 
-/* How many words an image of P partitions (1 to 16) of S slots (1 to 64) has. */
+/* How many words an image of P partitions (1 to 16) of S slots (1 to 128) has. */
 #define HEIDRUNOK_WORDS(P, S) (69 + 7 * (size_t)(P) * (size_t)(S))
 /* The most operations of one commit. */
 #define HEIDRUNOK_OPERATIONS 32
 /* The most names of an outlist. */
-#define HEIDRUNOK_NAMES 256
+#define HEIDRUNOK_NAMES 512
+/* A name is the number HEIDRUNOK_RADIX * q + t + 1 of the object (q, t), and 0 for nothing. */
+#define HEIDRUNOK_RADIX 128
 /* How many session handles there are: 0 to 31. */
 #define HEIDRUNOK_HANDLES 32
 
@@ -86,10 +88,10 @@ uint32_t heidrunok_drop(uint32_t *img, size_t words, uint32_t handle, uint8_t *l
                         size_t *extra);
 /* the kept length, where the log is to be cut and the next record goes; refused, the line, counted from 1, and with 3 and 4 the byte: the place
  * within that line, counted from 0, of the first byte that no line with a shape and the same start has there, or the line's length where it is
- * only too short or not ended (at most 20; with any other number 0). With 3 the line is to be a heading; an end that is torn is to be any other
- * line, a complete line any at all */
+ * only too short or not ended (at most 20, under a heading of edition 4 at most 21; with any other number 0). With 3 the line is to be a
+ * heading; an end that is torn is to be any other line, a complete line any at all */
 uint32_t heidrunok_recover(uint32_t *img, size_t words, const uint8_t *log, size_t bytes, size_t *kept, size_t *line, size_t *byte);
-/* fields[k] is 0 for nothing, or the name 64 q + t + 1 of the object (q, t) */
+/* the payload, and the names of what the fields refer to */
 uint32_t heidrunok_read(const uint32_t *img, size_t words, uint32_t p, uint32_t s, uint32_t *payload, uint32_t fields[4]);
 /* whether a root or handle leads to the object (p, s) */
 uint32_t heidrunok_ask(const uint32_t *img, size_t words, uint32_t p, uint32_t s, bool *yes);
@@ -101,7 +103,7 @@ static inline const char *heidrunok_refusal(uint32_t number) {
         "accepted",
         "the image is not sound",
         "partitions or slots out of range, or the image's length is not 69 + 7 P S",
-        "the first line is not a heading of edition 1, 2 or 3, or there is none",
+        "the first line is not a heading of edition 1, 2, 3 or 4, or there is none",
         "a line without a shape, or a tail that begins none",
         "a heading again, a collector or session line within a transaction, or an end without operations",
         "no operation or more than 32, or the end's number is wrong",

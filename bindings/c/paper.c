@@ -79,7 +79,7 @@ static void print_name(uint32_t name) {
     if (name == 0) {
         printf(" -");
     } else {
-        printf(" %u.%u", (unsigned)((name - 1) / 64), (unsigned)((name - 1) % 64));
+        printf(" %u.%u", (unsigned)((name - 1) / HEIDRUNOK_RADIX), (unsigned)((name - 1) % HEIDRUNOK_RADIX));
     }
 }
 

@@ -1,8 +1,10 @@
 #!/usr/bin/env python3
-"""Makes the scripts that are not written by hand (paper, stars, local, sessions, limits, logs, faults, random-..), and from model.py the
-.answers of every script here but those of w5-..: they were made elsewhere, and model.py gives the same. The scripts w1-.., w2-.. and w4-..
-were made elsewhere too, before a refused recovery had its byte, and those of w1-.. and w2-.. for an image without handles: their images have
-W4's 32 words more, so that their digests are the model's; every other answer is as it came.
+"""Makes the scripts that are not written by hand (paper, stars, local, sessions, limits, logs, faults, editions, random-..), and from model.py
+the .answers of every script here but those of w6-..: they were made elsewhere, and model.py gives the same. The scripts w1-.., w2-.., w4-..
+and w5-.. were made elsewhere too, before edition 4: the names that they put into the image by hand have its multiplier now. Those of w1-..,
+w2-.. and w4-.. were made before a refused recovery had its byte, and those of w1-.. and w2-.. for an image without handles: their images have
+W4's 32 words more. So their digests, those bytes and the heading that `log` shows are the model's, and one recovery meets a later heading of
+edition 4 (w2-calls-05: 5, which was 4); every other answer is as it came.
 
 scripts.py            makes them all anew
 scripts.py SEED       writes one random script, for trying more than are stored
@@ -21,18 +23,19 @@ LOGS = [
     ("no line at all: 3, line 1", ""),
     ("no complete line", "heap\t1\t2\t4"),
     ("no heading", "open\n"),
-    ("a heading of another edition: 1, 2 and 3 there are", "heap\t4\t2\t4\n"),
+    ("a heading of another edition: 1 to 4 there are", "heap\t5\t2\t4\n"),
     ("", "heap\t0\t2\t4\n"),
     ("", "heap\t2\t2\t4\n"),
     ("", "heap\t3\t2\t4\n"),
+    ("", "heap\t4\t2\t4\n"),
     ("a heading with spaces, a leading zero, a line too long", "heap 1 2 4\n"),
     ("", "heap\t1\t02\t4\n"),
     ("", "heap\t1\t2\t44444444444444444\n"),
     ("2: P or S out of range, or the length wrong, before line 2 is looked at", "heap\t1\t0\t4\nbad\n"),
     ("", "heap\t1\t17\t4\nbad\n"),
-    ("", "heap\t1\t2\t65\nbad\n"),
+    ("", "heap\t4\t2\t129\nbad\n"),
     ("", "heap\t1\t2\t5\n"),
-    ("an empty heap, and a tail of 20 bytes; 21 are 4, at the line after", "heap\t1\t2\t4\nnew\t15\t63\t4294967295"),
+    ("edition 1: an empty heap, and a tail of 20 bytes; 21 are 4, at the line after", "heap\t1\t2\t4\nnew\t15\t63\t4294967295"),
     ("", "heap\t1\t2\t4\nnew\t15\t127\t4294967295"),
     ("a tail of 21 bytes behind a dropped transaction", "heap\t1\t2\t4\nnew\t0\t0\t1\nnew\t15\t127\t4294967295"),
     ("a tail that begins no line is 4, whatever its length: text, a byte too many, no number, a heading", "heap\t1\t2\t4\n" + "x" * 20),
@@ -46,7 +49,7 @@ LOGS = [
     ("", "heap\t2\t2\t4\nheap\t2\t2\t4"),
     ("", "heap\t3\t2\t4\nhold\t\t"),
     ("", "heap\t3\t2\t4\ndrop\t0\t"),
-    ("and one that no line of 20 bytes begins; a digit less, and one does", "heap\t2\t2\t4\nnew\t4294967295\t4294"),
+    ("and, in edition 2 or 3, one that no line of 20 bytes begins; a digit less, and one does", "heap\t2\t2\t4\nnew\t4294967295\t4294"),
     ("", "heap\t2\t2\t4\nnew\t4294967295\t429"),
     ("", "heap\t2\t2\t4\nset\t429496729\t"),
     ("", "heap\t2\t2\t4\nset\t42949672\t"),
@@ -62,15 +65,16 @@ LOGS = [
     ("", "heap\t1\t2\t4\nnew\t0\t0\t1\nold\t0\t0\n"),
     ("", "heap\t1\t2\t4\nval\t0\t0\t4294967296\n"),
     ("", "heap\t1\t2\t4\nopen\t\n"),
-    ("a body of 20 bytes has a shape (7 here), and of 21 none", "heap\t1\t2\t4\nnew\t15\t63\t4294967295\nend\t1\n"),
+    ("edition 1: a body of 20 bytes has a shape (7 here), and a longer one none", "heap\t1\t2\t4\nnew\t15\t63\t4294967295\nend\t1\n"),
     ("", "heap\t1\t2\t4\nset\t100\t1000\t3\t1000\t1\nend\t1\n"),
     ("5: a heading again, a collector line within a transaction, an end with no operation", "heap\t1\t2\t4\nheap\t1\t2\t4\n"),
     ("", "heap\t1\t2\t4\nheap\t1\t99\t0\n"),
     ("a heading of any edition that there is: 5; of no other: 4", "heap\t1\t2\t4\nheap\t2\t2\t4\n"),
     ("", "heap\t2\t2\t4\nheap\t1\t2\t4\n"),
     ("", "heap\t1\t2\t4\nheap\t3\t2\t4\n"),
-    ("", "heap\t3\t2\t4\nheap\t3\t2\t4\n"),
     ("", "heap\t3\t2\t4\nheap\t4\t2\t4\n"),
+    ("", "heap\t4\t2\t4\nheap\t4\t2\t4\n"),
+    ("", "heap\t4\t2\t4\nheap\t5\t2\t4\n"),
     ("", "heap\t2\t2\t4\nheap\t12\t2\t4\n"),
     ("", "heap\t1\t2\t4\nnew\t0\t0\t1\nopen\n"),
     ("", "heap\t1\t2\t4\nend\t0\n"),
@@ -127,7 +131,7 @@ FIRST = [
     ("", "hea"),
     ("", "hold\t0\t0\t0\n"),
     ("", "new\t0"),
-    ("no edition, two digits of one, a leading zero, spaces, CRLF, a mark before the first letter", "heap\t4\t2\t4\n"),
+    ("no edition, two digits of one, a leading zero, spaces, CRLF, a mark before the first letter", "heap\t5\t2\t4\n"),
     ("", "heap\t0"),
     ("", "heap\t12\t2\t4\n"),
     ("", "heap\t3\t02\t4\n"),
@@ -164,7 +168,7 @@ LATER = [
     ("", "end\t4294967300"),
     ("", "end\t42949672950"),
     ("", "end\t9999999999"),
-    ("over 20 bytes: the byte is where no line within 20 goes on so, the digit that leaves no room for the numbers to come", "set\t0\t0\t0\t4294967295\t0"),
+    ("over 20 bytes, edition 3: the byte is where no line within 20 goes on so, the digit that leaves no room for the numbers to come", "set\t0\t0\t0\t4294967295\t0"),
     ("", "set\t4294967295\t0\t0\t0\t0"),
     ("", "new\t4294967295\t4294967295\t0"),
     ("", "hold\t4294967295\t42\t42"),
@@ -185,6 +189,19 @@ TAILS = [
     ("", "hold\t4294967295\t429"),
     ("", "unroot\t0 and more than twenty bytes"),
     ("", "local\t0\r"),
+]
+# Bodies of 20, 21 and 22 bytes, and longer ones that no line within 20 or within 21 goes on with.
+LONG = [
+    "new\t15\t63\t4294967295",
+    "new\t15\t127\t4294967295",
+    "new\t15\t1270\t4294967295",
+    "heap\t1\t4294967295\t12",
+    "heap\t1\t4294967295\t123",
+    "heap\t4\t4294967295\t123",
+    "heap\t4\t4294967295\t1234",
+    "set\t0\t0\t0\t429496729\t",
+    "set\t0\t0\t0\t4294967295\t0",
+    "hold\t4294967295\t4294967295\t0",
 ]
 # Whole logs refused with another number: the byte is 0.
 ELSE = [
@@ -229,8 +246,8 @@ def stars():
     """The paper's numbers with a star, acted out."""
     alone = "image 125 | buffer 400 | format 2 4 @ | new 0 0 1 | new 1 0 2 | root 0 0 0 | commit @"
     return [
-        "# Object (1,0) begins at word 97, and its name is 65: allowance 4, count 4, none freed.",
-        *acted(HEAP + " | open @ | word 97 2 | word 97 1 | read 0 0 | show | trace 1 @ | trace 0 @ | trace 1 @ | trace 0 @ | close @"),
+        "# Object (1,0) begins at word 97, and its name is 129 (word 71 of all words, as an image that is not sound is shown): allowance 4, count 4, none freed.",
+        *acted(HEAP + " | word 2 2 | show | word 2 0 | open @ | word 97 2 | word 97 1 | read 0 0 | show | trace 1 @ | trace 0 @ | trace 1 @ | trace 0 @ | close @"),
         "# With an unreferenced (1,1): allowance 5, 1 freed.",
         *acted(HEAP + " | new 1 1 40 | commit @ | open @ | show | trace 1 @ | trace 0 @ | trace 1 @ | trace 0 @ | close @ | show"),
         "# With, instead, a cycle that no root reaches: 2 freed.",
@@ -353,28 +370,28 @@ def grouped(operations):
 
 
 def limits():
-    """The largest of everything: 7,237 words, 65,536 bytes, 32 operations, 32 handles, the largest numbers."""
-    text = "image 7237 | buffer 65536 | format 16 64 65524 | format 17 64 0 | format 16 65 0 | format 16 64 65523 | digest | format 16 64 0"
-    text += " | new 15 63 4294967295 | new 0 0 0 | set 15 63 3 15 63 | root 15 15 63 | commit 13 | read 15 63 | ask 15 63 | ask 0 0 | log 82"
-    text += "".join(" | new 1 %d %d" % (i, i) for i in range(32)) + " | commit 82"
+    """The largest of everything: 14,405 words, 65,536 bytes, 32 operations, 32 handles, the largest numbers."""
+    text = "image 14405 | buffer 65536 | format 16 128 65523 | format 17 128 0 | format 16 129 0 | format 16 128 65522 | digest | format 16 128 0"
+    text += " | new 15 127 4294967295 | new 0 0 0 | set 15 127 3 15 127 | root 15 15 127 | commit 14 | read 15 127 | ask 15 127 | ask 0 0 | log 87"
+    text += "".join(" | new 1 %d %d" % (i, i) for i in range(32)) + " | commit 87"
     text += "".join(" | new 2 %d %d" % (i, i) for i in range(33)) + " | commit 600 | commit 600"
     text += "".join(" | val 0 0 %d" % i for i in range(70)) + " | commit 600 | read 2 0 | read 0 0 | read 1 31"
     # a chain down through all partitions: traced from the lowest up, each turn gets one further
-    text += "".join(" | new %d 63 0" % p for p in range(15)) + "".join(" | set %d 63 0 %d 63" % (p + 1, p) for p in range(15)) + " | commit 600 | ask 0 63 | open 1000"
+    text += "".join(" | new %d 127 0" % p for p in range(15)) + "".join(" | set %d 127 0 %d 127" % (p + 1, p) for p in range(15)) + " | commit 600 | ask 0 127 | open 1000"
     turn = "".join(" | trace %d 1010" % p for p in range(16))
     text += turn * 3 + " | close 2000" + turn * 13 + " | close 2000 | show | digest"
-    # an object that 64 of one partition name four times each, and the longest outlist
+    # an object that 128 of one partition name four times each, and the longest outlist
     text += " | new 0 1 0 | commit 2000"
-    slots = [(3, s) for s in range(64) if s != 63]
-    text += grouped("new %d %d 0" % a for a in slots) + grouped("set 3 %d %d 0 1" % (s, k) for s in range(64) for k in range(4))
-    text += " | outlist 3 | show | local 0 1000" + grouped("new %d %d 0" % (4 + s // 16, 4 * (s % 16) + k) for s in range(64) for k in range(4) if 4 * (s % 16) + k != 63)
-    text += grouped("set 3 %d %d %d %d" % (s, k, 4 + s // 16, 4 * (s % 16) + k) for s in range(64) for k in range(4)) + " | outlist 3 | outlist 7 | digest"
+    fields = [(s, k, 4 + s // 32, 4 * (s % 32) + k) for s in range(128) for k in range(4)]
+    text += grouped("new 3 %d 0" % s for s in range(127)) + grouped("set 3 %d %d 0 1" % (s, k) for s, k, _, _ in fields)
+    text += " | outlist 3 | show | local 0 1000" + grouped("new %d %d 0" % (q, t) for _, _, q, t in fields if t != 127)
+    text += grouped("set 3 %d %d %d %d" % f for f in fields) + " | outlist 3 | outlist 7 | digest"
     text += " | local 4 1000 | local 3 1000 | local 4 1000 | digest"
     # every handle, two on one object of each partition; twenty let go, so that four objects have none any more
     text += grouped("new %d 40 0" % p for p in range(16) if p not in (5, 6, 7))
     text += "".join(" | hold %d %d 40 1000" % (h, h % 16) for h in range(32)) + " | hold 32 0 40 1000 | show | digest"
     text += "".join(" | local %d 1000" % p for p in range(16)) + "".join(" | drop %d 1000" % h for h in range(20)) + " | drop 32 1000 | show"
-    text += "".join(" | local %d 1000" % p for p in range(16)) + " | hold 31 15 63 65523 | hold 31 15 63 65522 | hold 4294967295 4294967295 4294967295 0 | digest"
+    text += "".join(" | local %d 1000" % p for p in range(16)) + " | hold 31 15 127 65522 | hold 31 15 127 65521 | hold 4294967295 4294967295 4294967295 0 | digest"
     return text.split(" | ")
 
 
@@ -398,6 +415,29 @@ def faults():
     lines += ["# the line behind a dropped transaction, and one behind another that has no shape", *given(front + "unroot\t0\nunroot\n"), *given(front + "end\t1x\nxyz\n")]
     lines += ["# 5, 6, 7, 8, 9, 10 and 12: 0, whatever stands behind"]
     return lines + [line for log in ELSE for line in given(log)] + ["digest"]
+
+
+def editions():
+    """What an edition decides: the most slots of a partition, the most bytes of a line and of a tail; a heading's own bytes by what it announces."""
+    lines = ["# What the heading's edition decides, and nothing else does. Each log stands before its recovery.", "buffer 200"]
+    for edition, (slots, limit) in model.EDITIONS.items():
+        lines += ["# Edition %d: S is 1 to %d, into an image of that size." % (edition, slots)]
+        for s in (1, 64, 65, 128, 129):
+            lines += ["image %d" % model.size_of(1, s), *given("heap\t%d\t1\t%d\n" % (edition, s))]
+        lines += ["# Its last slot, and the one behind it: 7.", "image %d" % model.size_of(1, slots)]
+        for s in (slots - 1, slots):
+            lines += given("heap\t%d\t1\t%d\nnew\t0\t%d\t1\nend\t1\n" % (edition, slots, s))
+        lines += ["# A line and a tail have at most %d bytes, 4 beyond; a later heading within them is 5, whichever it announces." % limit, "image 125"]
+        for body in LONG:
+            lines += [*given("heap\t%d\t2\t4\n%s\n" % (edition, body)), *given("heap\t%d\t2\t4\n%s" % (edition, body))]
+        lines += ["# So has its heading: 2 here, 3 beyond."]
+        for last in (12, 123, 1234):
+            lines += [*given("heap\t%d\t4294967295\t%d\n" % (edition, last)), *given("heap\t%d\t4294967295\t%d" % (edition, last))]
+    lines += ["# The longest line that calls write has 21 bytes; its log at every cut.", "image 14405", "format 16 128 0", "new 15 127 4294967295", "commit 14"]
+    lines += ["recover %d" % cut for cut in range(14, 43)] + ["read 15 127", "log 42"]
+    lines += ["# A log of an older edition is carried on within it: its slots end at 63, so that no line has over 20 bytes."]
+    lines += ["image %d" % model.size_of(16, 64), *given("heap\t3\t16\t64\n"), "new 15 64 4294967295", "commit 13", "new 15 63 4294967295", "root 15 15 63", "commit 13"]
+    return lines + ["recover 54", "read 15 63", "log 54", "digest"]
 
 
 class Writer:
@@ -425,7 +465,7 @@ class Writer:
         """A partition and a slot, mostly one in use (or free)."""
         heap = model.Heap(self.shell.words)
         if self.r.random() < 0.04 or not heap.sound():
-            return "%d %d" % (self.r.choice([0, 1, 15, 16, 17, model.MOST]), self.r.choice([0, 1, 63, 64, 65, model.MOST]))
+            return "%d %d" % (self.r.choice([0, 1, 15, 16, 17, model.MOST]), self.r.choice([0, 1, 127, 128, 129, model.MOST]))
         made = {tuple(op[1:3]) for op in self.shell.waiting if op[0] == "new"}
         fit = [(p, s) for p, s, a in heap.objects() if (bool(heap.w[a]) or (p, s) in made) == used]
         fit = fit if fit and self.r.random() < 0.95 else [(p, s) for p, s, _ in heap.objects()]
@@ -500,7 +540,7 @@ class Writer:
         """A word changed by hand, every call tried, and the word put back."""
         at = self.r.choice([self.r.randrange(37), self.r.randrange(37, 69), self.r.randrange(len(self.shell.words))])
         before = self.shell.words[at]
-        self.say("word %d %d" % (at, self.r.choice([0, 1, 2, 3, 64, 65, model.MOST])))
+        self.say("word %d %d" % (at, self.r.choice([0, 1, 2, 3, 128, 129, model.MOST])))
         for line in ("read %s" % self.name(True), "ask %s" % self.name(True), "show"):
             self.say(line)
         self.logged(self.r.choice(["open", "trace 0", "close", "commit", "local 0", "hold 0 0 0", "drop 0"]))
@@ -515,7 +555,7 @@ class Writer:
 
     def script(self):
         r = self.r
-        parts, slots = r.choice([(1, 1), (1, 4), (2, 3), (2, 4), (3, 2), (4, 4), (16, 2), (2, 64), (r.randrange(1, 17), r.randrange(1, 9))])
+        parts, slots = r.choice([(1, 1), (1, 4), (2, 3), (2, 4), (3, 2), (4, 4), (16, 2), (2, 128), (r.randrange(1, 17), r.randrange(1, 9))])
         self.say("image %d" % model.size_of(parts, slots))
         self.say("buffer %d" % r.choice([300, 4000, 20000, 65536]))
         self.heading = "format %d %d" % (parts, slots)
@@ -535,7 +575,7 @@ class Writer:
             self.say(self.r.choice(["read %s" % self.name(True), "ask %s" % self.name(True), "outlist %s" % self.name(True).split()[0]]))
 
     def mistake(self):
-        self.say(self.r.choice(["read 0", "ask 0 0 0", "set 0 0 0 0", "word 7237 0", "local 0", "hold 0 0 0", "drop 0", "outlist 0 0", "recover 65537", "comit 0", "new 00 0 1", "val 0 -1 3", "bytes 0", "bytes 0 256", "log x", "", "# remark", "  \t", "\tread\t0  0 "]))
+        self.say(self.r.choice(["read 0", "ask 0 0 0", "set 0 0 0 0", "word 14405 0", "local 0", "hold 0 0 0", "drop 0", "outlist 0 0", "recover 65537", "comit 0", "new 00 0 1", "val 0 -1 3", "bytes 0", "bytes 0 256", "log x", "", "# remark", "  \t", "\tread\t0  0 "]))
 
 
 if __name__ == "__main__":
@@ -543,9 +583,9 @@ if __name__ == "__main__":
     if len(sys.argv) == 2:
         print(Writer(int(sys.argv[1])).script(), end="")
     else:
-        for make in (paper, stars, local, sessions, limits, logs, faults):
+        for make in (paper, stars, local, sessions, limits, logs, faults, editions):
             (here / (make.__name__ + ".script")).write_text("\n".join(make()) + "\n")
         for seed in range(1, 25):
             (here / ("random-%02d.script" % seed)).write_text(Writer(seed).script())
-        for script in set(here.glob("*.script")) - set(here.glob("w5-*")):
+        for script in set(here.glob("*.script")) - set(here.glob("w6-*")):
             script.with_suffix(".answers").write_bytes(model.play(script.read_bytes()))

@@ -7,8 +7,11 @@
 /// An operation as the archive takes it: a kind and five numbers.
 pub type Words = [u32; 6];
 
+/// The most names of an outlist.
+const MOST_NAMES: usize = 512;
+
 /// The names of an outlist as words, unused ones 0.
-pub type Names = [u32; 256];
+pub type Names = [u32; MOST_NAMES];
 
 mod c {
     use super::{Names, Words};
@@ -322,8 +325,8 @@ pub fn ask(img: &[u32], p: u32, s: u32) -> (u32, bool) {
 
 /// The number, how many names the partition holds, and the names.
 pub fn outlist(img: &[u32], partition: u32) -> (u32, usize, Names) {
-    let (mut held, mut names) = (0, [0; 256]);
-    // SAFETY: a slice that is only read, with its length, and a number and 256 words of our own.
+    let (mut held, mut names) = (0, [0; MOST_NAMES]);
+    // SAFETY: a slice that is only read, with its length, and a number and as many words of our own as an outlist has.
     let number = unsafe { c::heidrunok_outlist(img.as_ptr(), img.len(), partition, &mut held, &mut names) };
     (number, held, names)
 }

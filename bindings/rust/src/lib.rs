@@ -31,14 +31,14 @@ pub use refusal::{Place, Refusal, Refused};
 /// What a call answers.
 pub type Result<T> = core::result::Result<T, Refused>;
 
-/// How many words an image of so many partitions (1 to 16) and slots of each (1 to 64) has.
+/// How many words an image of so many partitions (1 to 16) and slots of each (1 to 128) has.
 #[must_use]
 pub const fn words(partitions: u32, slots: u32) -> usize {
     (partitions as usize).saturating_mul(slots as usize).saturating_mul(7).saturating_add(69)
 }
 
-/// How many words to lend to the recovery of a log: as many as its heading asks for. With no heading, or one whose numbers are out of
-/// range, recovery refuses the log whatever is lent, and these are the words of the smallest image.
+/// How many words to lend to the recovery of a log: as many as its heading asks for. With no heading, or numbers that no edition allows,
+/// these are the words of the smallest image. (A first line that recovery refuses by itself, it refuses whatever is lent.)
 #[must_use]
 pub fn words_for(log: &[u8]) -> usize {
     let heading = log.split(|&b| b == b'\n').next().unwrap_or_default();
@@ -47,7 +47,7 @@ pub fn words_for(log: &[u8]) -> usize {
         let text = core::str::from_utf8(numbers.next()?).ok()?;
         text.parse().ok().filter(|n| (1..=limit).contains(n))
     };
-    match (below(16), below(64)) {
+    match (below(16), below(128)) {
         (Some(partitions), Some(slots)) => words(partitions, slots),
         _ => words(1, 1),
     }
@@ -97,10 +97,13 @@ impl Name {
         Name { partition: Partition(partition), slot: Slot(slot) }
     }
 
-    /// The name of a reference word, 64 p + s + 1; 0 is nothing.
+    /// The multiplier of a reference word.
+    const RADIX: u32 = 128;
+
+    /// The name of a reference word, `RADIX` p + s + 1; 0 is nothing.
     fn of(word: u32) -> Option<Name> {
         let k = word.checked_sub(1)?;
-        Some(Name::new(k / 64, k % 64))
+        Some(Name::new(k / Name::RADIX, k % Name::RADIX))
     }
 }
 
@@ -167,7 +170,7 @@ pub struct Freed<'c> {
     pub freed: usize,
 }
 
-/// The objects of other partitions that fields of a partition's objects name, at most 256 of them.
+/// The objects of other partitions that fields of a partition's objects name, at most 512 of them.
 #[derive(Clone, Copy, PartialEq, Eq, Hash, Debug)]
 pub struct Outlist {
     held: usize,

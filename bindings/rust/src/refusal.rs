@@ -36,7 +36,7 @@ macro_rules! refusals {
 refusals! {
     Unsound = 1, "the image is not sound";
     Size = 2, "partitions or slots out of range, or the image's length is not 69 + 7 P S";
-    Heading = 3, "the first line is not a heading of edition 1, 2 or 3, or there is none";
+    Heading = 3, "the first line is not a heading of edition 1, 2, 3 or 4, or there is none";
     Shape = 4, "a line without a shape, or a tail that begins none";
     Order = 5, "a heading again, a collector or session line within a transaction, or an end without operations";
     Count = 6, "no operation or more than 32, or the end's number is wrong";

@@ -43,7 +43,7 @@ fn records_are_the_bytes_of_the_log() -> Result<(), Refused> {
     disk.extend_from_slice(closed.record);
     assert_eq!((closed.traces, closed.freed), (4, 1));
     assert_eq!(disk, c.log());
-    let text = "heap\t3\t2\t4\nnew\t0\t0\t10\nnew\t1\t0\t20\nnew\t0\t1\t30\nset\t0\t0\t0\t1\t0\nset\t1\t0\t0\t0\t1\n\
+    let text = "heap\t4\t2\t4\nnew\t0\t0\t10\nnew\t1\t0\t20\nnew\t0\t1\t30\nset\t0\t0\t0\t1\t0\nset\t1\t0\t0\t0\t1\n\
         root\t0\t0\t0\nend\t6\nnew\t1\t1\t40\nval\t0\t1\t31\nend\t2\nclr\t0\t0\t3\nunroot\t15\nend\t2\nopen\n\
         trace\t1\ntrace\t0\ntrace\t1\ntrace\t0\nhold\t31\t0\t1\ndrop\t31\nclose\n";
     assert_eq!(String::from_utf8_lossy(&disk), text);
@@ -115,9 +115,9 @@ fn refusals_change_nothing_and_say_where() -> Result<(), Refused> {
 
 #[test]
 fn refusals_of_a_phase() -> Result<(), Refused> {
-    let (mut image, mut log) = (vec![0; words(16, 64)], vec![b'.'; 4000]);
-    let mut c = Catalogue::format(&mut image, &mut log, 16, 64)?;
-    c.commit(&[Operation::New(n(15, 63), 1), Operation::Root(Root(15), Some(n(15, 63)))])?;
+    let (mut image, mut log) = (vec![0; words(16, 128)], vec![b'.'; 4000]);
+    let mut c = Catalogue::format(&mut image, &mut log, 16, 128)?;
+    c.commit(&[Operation::New(n(15, 127), 1), Operation::Root(Root(15), Some(n(15, 127)))])?;
     c.open()?;
     assert_eq!(at(c.open().unwrap_err()), (11, Place::Call));
     assert_eq!(at(c.trace(Partition(16)).unwrap_err()), (7, Place::Call));
@@ -128,6 +128,25 @@ fn refusals_of_a_phase() -> Result<(), Refused> {
     let refused = c.trace(Partition(15)).unwrap_err();
     assert_eq!(refused.to_string(), "refused 13: the partition is clean");
     assert_eq!(c.close()?.freed, 0);
+    Ok(())
+}
+
+/// Every slot of the largest partition, each with four names in others.
+#[test]
+fn the_largest_outlist() -> Result<(), Refused> {
+    let (mut image, mut log) = (vec![0; words(5, 128)], vec![b'.'; 40000]);
+    let mut c = Catalogue::format(&mut image, &mut log, 5, 128)?;
+    let all: Vec<Name> = (0..5).flat_map(|p| (0..128).map(move |s| n(p, s))).collect();
+    let (holders, others) = all.split_at(128);
+    let made: Vec<Operation> = all.iter().map(|&name| Operation::New(name, 7)).collect();
+    let held = |k: usize| Operation::Set(holders[k / 4], Field(k as u32 % 4), Some(others[k]));
+    let set: Vec<Operation> = (0..512).rev().map(held).collect();
+    for operations in made.chunks(32).chain(set.chunks(32)) {
+        c.commit(operations)?;
+    }
+    assert!(c.outlist(Partition(0))?.names().eq(others.iter().copied()));
+    assert_eq!((c.outlist(Partition(0))?.len(), c.outlist(Partition(4))?.len()), (512, 0));
+    assert_eq!(c.read(n(0, 127))?.fields, [124, 125, 126, 127].map(|s| Some(n(4, s))));
     Ok(())
 }
 
@@ -205,16 +224,20 @@ fn a_refused_recovery_says_the_byte() {
     for (log, number, line, byte) in [
         (&b""[..], 3, 1, 0),
         (b"heap\t3\t2\t4", 3, 1, 10),
-        (b"heap\t4\t2\t4\n", 3, 1, 5),
+        (b"heap\t5\t2\t4\n", 3, 1, 5),
+        (b"heap\t3\t4294967295\t123\n", 3, 1, 20),
+        (b"heap\t4\t4294967295\t1234\n", 3, 1, 21),
         (b"heap\t3\t2\t4\r\n", 3, 1, 10),
         (b"heap\t3\t2\t4\nset\t0\t0\t0\t4294967295\t0\n", 4, 2, 18),
         (b"heap\t3\t2\t4\nnew\t15\t127\t4294967295\n", 4, 2, 20),
+        (b"heap\t4\t2\t4\nnew\t15\t1270\t4294967295\n", 4, 2, 21),
         (b"heap\t3\t2\t4\nend\t01\n", 4, 2, 5),
         (b"heap\t3\t2\t4\nval\t0\t0\t\xff\n", 4, 2, 8),
         (b"heap\t3\t2\t4\nhe\n", 4, 2, 2),
         (b"heap\t3\t2\t4\nhe", 4, 2, 1),
         (b"heap\t3\t2\t4\nend\t1\nxyz", 5, 2, 0),
         (b"heap\t3\t0\t4\nxyz\n", 2, 1, 0),
+        (b"heap\t3\t1\t65\nxyz\n", 2, 1, 0),
     ] {
         let (mut image, mut bytes) = (vec![9; words_for(log)], log.to_vec());
         let refused = Catalogue::recover(&mut image, &mut bytes, log.len()).unwrap_err();
@@ -229,7 +252,9 @@ fn words_of_headings() {
     for (log, lent) in [
         (&b"heap\t1\t2\t4\nnew\t0"[..], 125),
         (b"heap\t3\t16\t64\n", 7237),
+        (b"heap\t4\t16\t128\n", 14405),
         (b"heap\t2\t17\t64\n", 76),
+        (b"heap\t4\t16\t129\n", 76),
         (b"heap\t1\t2\n", 76),
         (b"heap\t1\t2\t\xff\n", 76),
         (b"", 76),

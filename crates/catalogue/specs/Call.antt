@@ -148,7 +148,7 @@ reading (Refused x) r = record { verdict = Refused x; object = blankRecord }
 unfoldable pub readingOf : Image → Name → Reading
 readingOf img n = reading (judgeObject img n) (readOf img (place (get img slots) n))
 
--- refused: number 0 and 256 zeros
+-- refused: number 0, and a zero for each name
 abbrev pub listing : Verdict → Outlist → Listing
 listing Accepted o = record { verdict = Accepted; outlist = o }
 listing (Refused x) o = record { verdict = Refused x; outlist = noNames }

@@ -6,10 +6,9 @@ use native.Mathlib.Omega.{arith}
 use lib.Dec.{eqb}
 use Rattle.loops.specs.Loop.{each}
 use Rattle.loops.proofs.Loops.{tally-le}
-use Rattle.kinds.specs.Names.{mostPartitions}
+use Rattle.kinds.specs.Names.{mostPartitions, mostPlaces}
 use Rattle.model.specs.Image.{Image, flag, state, phase, count, allowance, anchors, get, put}
 use Rattle.model.specs.Acts.{unmarked, unclean, markAnchors, allow, openUp, finish, shut, closeUp}
-use Rattle.model.specs.Outlist.{mostPlaces}
 use Rattle.image.specs.Within.{Within}
 use Rattle.image.proofs.Within.{places}
 use Rattle.collector.specs.declared.Sweep.the-variants.{Flags, Anchors, Slots}

@@ -31,6 +31,9 @@ pub struct Closed {
 // The fields of an object.
 const FIELDS: usize = kinds::Field::LIMIT as usize;
 
+// The most slots of a partition.
+const SLOTS: usize = kinds::Slot::LIMIT as usize;
+
 // How many objects of the first n places are in use and unmarked.
 fn unmarked(img: &[u32], n: usize) -> usize
     requires { ⌜ Sized n (now img) ⌝ }
@@ -112,7 +115,7 @@ fn each(img: &mut [u32], p: usize, s: usize, what: Sweep, n: usize)
 }
 
 // The marked objects of partition t are listed.
-fn list_marked(img: &[u32], p: usize, s: usize, t: usize, list: &mut [u32; 64]) -> usize
+fn list_marked(img: &[u32], p: usize, s: usize, t: usize, list: &mut [u32; SLOTS]) -> usize
     requires { ⌜ Within p s (now img) ⌝ }
     requires { ⌜ (t < p) × (length (now list) ≡ mostSlots) ⌝ }
     ensures { λ r. ⌜ Listed s t (now (img .entry)) (now (list .exit)) r ⌝ }
@@ -137,7 +140,7 @@ fn note(
     s: usize,
     t: usize,
     w: u32,
-    list: &mut [u32; 64],
+    list: &mut [u32; SLOTS],
     m: usize,
 ) -> usize
     requires { ⌜ Within p s (now img) ⌝ }
@@ -168,7 +171,7 @@ fn visit(
     s: usize,
     t: usize,
     j: usize,
-    list: &mut [u32; 64],
+    list: &mut [u32; SLOTS],
     m: usize,
 ) -> usize
     requires { ⌜ Within p s (now img) ⌝ }
@@ -193,7 +196,7 @@ fn walk(img: &mut [u32], p: usize, s: usize, t: usize)
     requires { ⌜ t < p ⌝ }
     ensures { λ _. ⌜ (now (img .exit) ≡ outside s t (inside s t (now (img .entry)))) × Within p s (now (img .exit)) ⌝ }
 {
-    let mut list = [0u32; 64];
+    let mut list = [0u32; SLOTS];
     let mut m = list_marked(img, p, s, t, &mut list);
     let mut at: usize = 0;
     while at < m {

@@ -273,7 +273,7 @@ fn word(f: Field) -> u32
     kinds::word_of(t)
 }
 
-// A field is 0 for nothing, or 64 p + s + 1.
+// A field is 0 for nothing, or 128 p + s + 1.
 #[no_mangle]
 pub extern "C" fn heidrunok_read(
     img: &[u32],

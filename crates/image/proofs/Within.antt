@@ -10,10 +10,9 @@ use lib.Arith.{digits-lt, digits-div}
 use lib.Dec.{eqb, leb}
 use lib.ListN.{length}
 use borrow.Author.Tests.{eqb-false, leb-true}
-use Rattle.kinds.specs.Names.{mostPartitions, mostSlots, radix}
+use Rattle.kinds.specs.Names.{mostPartitions, mostSlots, radix, mostPlaces}
 use Rattle.model.specs.Image.{Image, Key, head, anchor, flag, state, payload, inlist, field, front, addr, get, put, lengthOf, placeOf, partOf, refer, release, Holder, an-anchor, a-field}
 use Rattle.model.specs.Acts.{mark, markWord}
-use Rattle.model.specs.Outlist.{mostPlaces}
 use Rattle.model.specs.Sound.{Limits, SoundAt, NamesUsed, Right}
 use Rattle.model.proofs.Keys.{Fits, In, Has, Sized, same, touches, has, get-put-apart, sized-put, sized-length, refer-apart, refer-same, sized-refer, release-apart, release-same, sized-release}
 use Rattle.model.proofs.Holders.{holder-in, holder-same}
@@ -80,7 +79,7 @@ holder-fits : {n : ℕ} {κ : Key} → Holder n κ → Fits κ
 holder-fits (an-anchor l) = l
 holder-fits (a-field l m) = m
 
--- a product with S is at most 64 times its other factor
+-- a product with S is at most mostSlots times its other factor
 pub product : (M p s : ℕ) → p ≤ M → s ≤ mostSlots → p * s ≤ M * mostSlots
 product M p s hp hs = mul-le-mul {n₁ = p} {m₁ = s} {n₂ = M} {m₂ = mostSlots} hp hs
 
@@ -99,7 +98,7 @@ word-none S = omega (arith, zero-mul S)
 -- where a word leads, at most
 pub word-most : (S w : ℕ) → S ≤ mostSlots → w < 2 ^ 32 → placeOf S w < 2 ^ 33
 unfolding placeOf
-word-most S w s l = omega (arith, product (2 ^ 26) ((w - 1) / radix) S (omega arith) s)
+word-most S w s l = omega (arith, product (2 ^ 32 / radix) ((w - 1) / radix) S (omega arith) s)
 
 -- the partition of what a word names: its own, if its slot is below S
 pub part-none : (S : ℕ) → 0 ≡ partOf S (placeOf S 0)

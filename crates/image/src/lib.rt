@@ -6,7 +6,7 @@ ghost use mathlib.Core.Path.{_≡_};
 ghost use mathlib.Core.Logic.{_≢_};
 ghost use Prim.Native.Nat.{_+_, _*_, _^_, _<_, _≤_};
 ghost use lib.ListN.{length, replicate};
-ghost use Rattle.kinds.specs.Names.{mostSlots, roots};
+ghost use Rattle.kinds.specs.Names.{mostSlots, mostPlaces, roots};
 ghost use lib.Dec.{leb};
 ghost use Rattle.model.specs.Image.{head, anchor, flag, state, payload, inlist, field, front, addr, Has, get, put, lengthOf, size, blank, place, placeOf, partOf, lose, gain, refer, release};
 ghost use Rattle.model.specs.Judge.{inLimits, judgeFormat};
@@ -23,7 +23,7 @@ const STRIDE: usize = 7;
 const INLIST: usize = 6;
 
 // The words of the largest image.
-pub const WORDS: usize = FRONT + STRIDE * (kinds::Partition::LIMIT * kinds::Slot::LIMIT) as usize;
+pub const WORDS: usize = FRONT + STRIDE * kinds::Name::LIMIT;
 
 // What holds a reference and is no field: the roots, then the session handles.
 const ROOTS: usize = kinds::Target::ROOTS as usize;
@@ -316,10 +316,10 @@ pub fn release_field(img: &mut [u32], p: usize, s: usize, j: usize, k: usize)
 }
 
 // As many zeros as there can be places.
-pub fn zeros() -> [u32; 1024]
-    ensures { λ r. ⌜ r ≡ replicate 1024 0 ⌝ }
+pub fn zeros() -> [u32; kinds::Name::LIMIT]
+    ensures { λ r. ⌜ r ≡ replicate mostPlaces 0 ⌝ }
 {
-    [0u32; 1024]
+    [0u32; kinds::Name::LIMIT]
 }
 
 // All words become 0.
@@ -333,7 +333,7 @@ pub fn clear(img: &mut [u32])
     }
 }
 
-// P is 1 to 16, S is 1 to 64.
+// P is 1 to 16, S is 1 to 128.
 pub fn in_limits(p: u32, s: u32) -> bool
     ensures { λ r. ⌜ r ≡ inLimits p s ⌝ }
 {

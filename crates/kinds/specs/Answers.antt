@@ -2,6 +2,7 @@
 use Prim.Native.Nat.{ℕ}
 use mathlib.Core.List.{[], _∷_}
 use lib.ListN.{replicate}
+use Rattle.kinds.specs.Names.{mostNames}
 use Rattle.kinds.specs.declared.Target.the-variants.{Nothing}
 use Rattle.kinds.specs.declared.Field.{Field}
 use Rattle.kinds.specs.declared.Record.{Record}
@@ -20,6 +21,6 @@ blankField = record { target = Nothing }
 abbrev pub blankRecord : Record
 blankRecord = record { payload = 0; fields = blankField ∷ blankField ∷ blankField ∷ blankField ∷ [] }
 
--- number 0 and 256 zeros
+-- number 0, and zeros
 abbrev pub noNames : Outlist
-noNames = record { number = 0; names = replicate 256 0 }
+noNames = record { number = 0; names = replicate mostNames 0 }

@@ -8,12 +8,15 @@ use Rattle.kinds.specs.declared.Handle.{Handle}
 use Rattle.kinds.specs.declared.Target.{Target}
 use Rattle.kinds.specs.declared.Target.the-variants.{Nothing, Object}
 
--- the limits: partitions, slots of each, roots, session handles, fields of an object, operations of a commit
+-- the limits: partitions, slots of each, slots of all, roots, session handles, fields of an object, names of an outlist, operations of a commit
 abbrev pub mostPartitions : ℕ
 mostPartitions = 16
 
 abbrev pub mostSlots : ℕ
-mostSlots = 64
+mostSlots = 128
+
+abbrev pub mostPlaces : ℕ
+mostPlaces = mostPartitions * mostSlots
 
 abbrev pub roots : ℕ
 roots = 16
@@ -24,12 +27,15 @@ handles = 32
 abbrev pub fields : ℕ
 fields = 4
 
+abbrev pub mostNames : ℕ
+mostNames = fields * mostSlots
+
 abbrev pub mostOperations : ℕ
 mostOperations = 32
 
 -- the multiplier of a reference word
 abbrev pub radix : ℕ
-radix = 64
+radix = 128
 
 -- partition p, slot s of it, and session handle h
 abbrev pub partition : ℕ → Partition
@@ -57,7 +63,11 @@ wordOf t = wordAt radix t
 unfoldable pub targetOf : ℕ → Target
 targetOf w = targetAt radix w
 
+-- a target in a heap of at most m slots a partition
+abbrev pub NamedBelow : ℕ → Target → Type 0
+NamedBelow m Nothing = Unit {0}
+NamedBelow m (Object n) = (n .partition .0 < mostPartitions) × (n .slot .0 < m)
+
 -- a target whose numbers are within the limits, so that its word fits 32 bits
 abbrev pub Named : Target → Type 0
-Named Nothing = Unit {0}
-Named (Object n) = (n .partition .0 < mostPartitions) × (n .slot .0 < mostSlots)
+Named t = NamedBelow mostSlots t

@@ -1,9 +1,10 @@
 // The kinds of things that the catalogue speaks of, with their limits: partitions, slots, names of objects, session handles, targets of references,
-// fields, records, outlists, operations, single-line acts, refusals; and names as words. That a word and its target invert each other and that words are
-// in the order of names is proved once, for any multiplier above the largest slot number, in proofs/Names.antt.
+// fields, records, outlists, operations, single-line acts, refusals, what an edition of the log decides; and names as words. That a word and its target
+// invert each other and that words are in the order of names is proved once, for any multiplier above the largest slot number, in proofs/Names.antt.
 ghost use mathlib.Core.Path.{_≡_};
 ghost use Rattle.kinds.specs.Names.{named, wordOf, targetOf, Named};
 ghost use Rattle.kinds.specs.Answers.{blankRecord, noNames, refuse};
+ghost use Rattle.kinds.specs.Editions.{decides, terms};
 
 // A partition's number.
 pub struct Partition(pub u32);
@@ -16,13 +17,18 @@ impl Partition {
 pub struct Slot(pub u32);
 
 impl Slot {
-    pub const LIMIT: u32 = 64;
+    pub const LIMIT: u32 = 128;
 }
 
 // The name of an object: one partition and one slot.
 pub struct Name {
     pub partition: Partition,
     pub slot: Slot,
+}
+
+impl Name {
+    // How many objects there can be.
+    pub const LIMIT: usize = (Partition::LIMIT * Slot::LIMIT) as usize;
 }
 
 // Slot s of partition p.
@@ -80,8 +86,41 @@ pub struct Outlist {
 }
 
 impl Outlist {
-    // The most names: four fields of each of 64 slots.
-    pub const LIMIT: usize = 256;
+    // The most names: four fields of each slot.
+    pub const LIMIT: usize = (Field::LIMIT * Slot::LIMIT) as usize;
+}
+
+// What an edition of the log decides.
+pub struct Terms {
+    // The most slots of a partition.
+    pub slots: u32,
+    // The most bytes of a line's body, and of a tail.
+    pub bytes: usize,
+}
+
+// A partition has at most so many slots, a line's body and a tail so many bytes.
+fn decides(slots: u32, bytes: usize) -> Terms
+    ensures { λ r. ⌜ r ≡ decides slots bytes ⌝ }
+{
+    Terms { slots, bytes }
+}
+
+impl Terms {
+    // The edition of the logs that are written.
+    pub const NEWEST: u32 = 4;
+
+    // A row for each edition, as in specs/Editions.antt. A number that is none has no slots.
+    pub fn of(edition: u32) -> Terms
+        ensures { λ r. ⌜ r ≡ terms edition ⌝ }
+    {
+        match edition {
+            1 => decides(64, 20),
+            2 => decides(64, 20),
+            3 => decides(64, 20),
+            4 => decides(128, 21),
+            _ => decides(0, 20),
+        }
+    }
 }
 
 // An operation of a commit. A clr is a set to nothing, and an unroot a root to nothing.
@@ -205,7 +244,7 @@ pub fn blank() -> Record
     }
 }
 
-// The outlist of a refusal: number 0 and 256 zeros.
+// The outlist of a refusal: number 0, and zeros.
 pub fn no_names() -> Outlist
     ensures { λ r. ⌜ r ≡ noNames ⌝ }
 {

@@ -10,10 +10,10 @@ use lib.ListN.{replicate}
 use borrow.Author.Tests.{ltb-true, ltb-false, lt-ltb, le-ltb, eqb-true, eq-eqb, ne-eqb, not-true}
 use Rattle.loops.specs.Loop.{both, each}
 use Rattle.loops.proofs.Tests.{same-test, both-true}
+use Rattle.kinds.specs.Names.{mostPlaces}
 use Rattle.model.specs.Image.{Image, Key, anchor, inlist, field, anchors, get}
 use Rattle.model.specs.Acts.{own, localStart, localBits}
 use Rattle.model.specs.Questions.{Bits, addBit, collect, held, heldAt}
-use Rattle.model.specs.Outlist.{mostPlaces}
 use Rattle.model.proofs.Places.{slot-in, row-part, part-row}
 use Rattle.model.proofs.Localizing.{own-in}
 use Rattle.model.proofs.Alike.{Alike, Fits, alike-none, collect-alike, spread-alike}

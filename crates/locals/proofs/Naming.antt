@@ -6,6 +6,7 @@ use mathlib.Core.Logic.{_≢_}
 use mathlib.Core.List.{List}
 use lib.ListN.{getD, set}
 use borrow.Author.Tests.{eq-eqb, ne-eqb}
+use Rattle.kinds.specs.Names.{radix, mostNames}
 use Rattle.model.specs.Questions.{Bits, hasBit}
 use Rattle.model.specs.Outlist.{nameAt, nameOne}
 use Rattle.locals.specs.Outlist.{nameState, Placed}
@@ -15,10 +16,10 @@ module _ {S : ℕ} {bits : Bits} {i : ℕ} {names : List ℕ} {n : ℕ} (h : Pla
   unfolding hasBit
   put-none e = rw (ne-eqb _ _ e)
 
-  pub put-room : getD bits i 0 ≡ 1 → n < 256
+  pub put-room : getD bits i 0 ≡ 1 → n < mostNames
   unfolding hasBit
   put-room e = h .room (eq-eqb _ _ e)
 
-  pub put-one : getD bits i 0 ≡ 1 → nameState (n + 1) (set names n (i / S * 64 + i % S + 1)) ≡ nameOne S bits (nameState n names) i
+  pub put-one : getD bits i 0 ≡ 1 → nameState (n + 1) (set names n (i / S * radix + i % S + 1)) ≡ nameOne S bits (nameState n names) i
   unfolding hasBit nameAt
   put-one e = rw (eq-eqb _ _ e)

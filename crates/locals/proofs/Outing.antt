@@ -8,9 +8,10 @@ use native.Mathlib.Omega.{arith}
 use lib.ListN.{length, set, length-set}
 use borrow.Author.Tests.{eq-eqb, ne-eqb}
 use Rattle.loops.specs.Loop.{tally}
+use Rattle.kinds.specs.Names.{mostPlaces, mostNames}
 use Rattle.model.specs.Image.{Image, state, field, get, placeOf, partOf, abroad, a-field}
 use Rattle.model.specs.Questions.{Bits, hasBit, addBit}
-use Rattle.model.specs.Outlist.{mostPlaces, goesOut, goesTo, outOne, outBits, listNames, outlist}
+use Rattle.model.specs.Outlist.{goesOut, goesTo, outOne, outBits, listNames, outlist}
 use Rattle.model.proofs.Places.{part-of}
 use Rattle.model.proofs.Outlists.{out-tally}
 use Rattle.image.specs.Within.{Within}
@@ -65,7 +66,7 @@ module _ {P S : ℕ} {x : Image} {p f : ℕ} {b : Bits} {w i q : ℕ} (n : Namin
 pub gathers : {P S : ℕ} {x : Image} → Within P S x → (p : ℕ) (bits : Bits) → bits ≡ outBits S p x → Gathers P S bits
 gathers {P} {S} {x} w p bits e =
     let t = out-tally S p x in
-    let few : tally mostPlaces (hasBit (outBits S p x)) ≤ 256 = omega (arith, t .1, w .limits .slots-most) in
+    let few : tally mostPlaces (hasBit (outBits S p x)) ≤ mostNames = omega (arith, t .1, w .limits .slots-most) in
     record { limits = w .limits; fit = places w; wide = rw e (t .0); few = rw e few }
 
 pub out-listed : (P S p : ℕ) (x : Image) (bits : Bits) → bits ≡ outBits S p x → listNames (P * S) S bits ≡ outlist P S p x

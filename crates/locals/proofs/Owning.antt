@@ -2,8 +2,8 @@
 -- Assumes nothing.
 use Prim.Native.Nat.{ℕ, _+_, _*_, _-_, _≤_, _<_}
 use native.Mathlib.Omega.{arith}
+use Rattle.kinds.specs.Names.{mostPlaces}
 use Rattle.model.specs.Image.{Image}
-use Rattle.model.specs.Outlist.{mostPlaces}
 use Rattle.model.proofs.Places.{slot-in}
 use Rattle.image.specs.Within.{Within}
 use Rattle.image.proofs.Within.{places}

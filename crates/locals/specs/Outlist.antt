@@ -5,10 +5,10 @@ use mathlib.Core.Bool.{true}
 use mathlib.Core.List.{List}
 use lib.ListN.{length}
 use Rattle.loops.specs.Loop.{tally}
+use Rattle.kinds.specs.Names.{mostPlaces, mostNames}
 use Rattle.kinds.specs.declared.Outlist.{Outlist}
 use Rattle.model.specs.Image.{Image}
 use Rattle.model.specs.Questions.{Bits, hasBit}
-use Rattle.model.specs.Outlist.{mostPlaces}
 use Rattle.model.specs.Sound.{Limits}
 use Rattle.locals.specs.Slots.{SlotOf}
 
@@ -25,12 +25,12 @@ pub record Gathers (P S : ℕ) (bits : Bits) : Type 0 where
   pub limits : Limits P S
   pub fit : P * S ≤ mostPlaces
   pub wide : length bits ≡ mostPlaces
-  pub few : tally mostPlaces (hasBit bits) ≤ 256
+  pub few : tally mostPlaces (hasBit bits) ≤ mostNames
 
 -- the same of one place
 pub record Placed (S : ℕ) (bits : Bits) (i : ℕ) (names : List ℕ) (n : ℕ) : Type 0 where
   pub some-slot : 0 < S
   pub place : i < mostPlaces
   pub wide : length bits ≡ mostPlaces
-  pub long : length names ≡ 256
-  pub room : hasBit bits i ≡ true → n < 256
+  pub long : length names ≡ mostNames
+  pub room : hasBit bits i ≡ true → n < mostNames

@@ -3,13 +3,15 @@
 // todo follow the fields inside t from there; that exactly the places that stay are noted is `all-kept` in proofs/Keeping.antt.
 // `outlist` answers the names that t's objects hold of other partitions' objects (the model's `outlist`): it marks their places and lists
 // the marked ones in order.
+use kinds::Name;
 use kinds::Outlist;
 use kinds::Partition;
 ghost use mathlib.Core.Path.{_≡_};
 ghost use Prim.Native.Nat.{_+_, _*_, _<_};
 ghost use lib.ListN.{length, replicate};
+ghost use Rattle.kinds.specs.Names.{mostPlaces};
 ghost use Rattle.model.specs.Acts.{localUp, localFreed};
-ghost use Rattle.model.specs.Outlist.{mostPlaces, outOne, outBits, nameOne, listNames, outlist};
+ghost use Rattle.model.specs.Outlist.{outOne, outBits, nameOne, listNames, outlist};
 ghost use Rattle.image.specs.Within.{Within};
 ghost use Rattle.todo.specs.Notes.{Noted, More};
 ghost use Rattle.loops.specs.Loop.{bit, each, tally};
@@ -23,8 +25,8 @@ fn note_named(
     s: usize,
     t: usize,
     k: usize,
-    marks: &mut [u32; 1024],
-    list: &mut [u32; 1024],
+    marks: &mut [u32; Name::LIMIT],
+    list: &mut [u32; Name::LIMIT],
     m: usize,
 ) -> usize
     requires { ⌜ SlotOf p s (now img) t k ⌝ }
@@ -45,8 +47,8 @@ fn note_counted(
     p: usize,
     s: usize,
     t: usize,
-    marks: &mut [u32; 1024],
-    list: &mut [u32; 1024],
+    marks: &mut [u32; Name::LIMIT],
+    list: &mut [u32; Name::LIMIT],
     m: usize,
 ) -> usize
     requires { ⌜ Within p s (now img) ⌝ }
@@ -64,9 +66,9 @@ fn note_counted(
 }
 
 // The places of partition t that stay are noted: what roots, handles and foreign fields name there, then what chains inside t lead to.
-fn keep(img: &[u32], p: usize, s: usize, t: usize, marks: &mut [u32; 1024])
+fn keep(img: &[u32], p: usize, s: usize, t: usize, marks: &mut [u32; Name::LIMIT])
     requires { ⌜ Within p s (now img) ⌝ }
-    requires { ⌜ (t < p) × (now marks ≡ replicate 1024 0) ⌝ }
+    requires { ⌜ (t < p) × (now marks ≡ replicate mostPlaces 0) ⌝ }
     ensures { λ _. ⌜ Kept p s t (now (img .entry)) (now (marks .exit)) ⌝ }
 {
     let lo = t * s;
@@ -77,7 +79,7 @@ fn keep(img: &[u32], p: usize, s: usize, t: usize, marks: &mut [u32; 1024])
 }
 
 // 1 where the object in slot k of partition t is in use and not noted, else 0.
-fn lost_at(img: &[u32], p: usize, s: usize, t: usize, marks: &[u32; 1024], k: usize) -> usize
+fn lost_at(img: &[u32], p: usize, s: usize, t: usize, marks: &[u32; Name::LIMIT], k: usize) -> usize
     requires { ⌜ SlotOf p s (now img) t k ⌝ }
     ensures { λ r. ⌜ r ≡ bit (lostAt s t (now (img .entry)) (now (marks .entry)) k) ⌝ }
 {
@@ -92,7 +94,7 @@ fn lost_at(img: &[u32], p: usize, s: usize, t: usize, marks: &[u32; 1024], k: us
 }
 
 // How many objects of partition t are in use and not noted.
-fn lost(img: &[u32], p: usize, s: usize, t: usize, marks: &[u32; 1024]) -> usize
+fn lost(img: &[u32], p: usize, s: usize, t: usize, marks: &[u32; Name::LIMIT]) -> usize
     requires { ⌜ Within p s (now img) ⌝ }
     requires { ⌜ t < p ⌝ }
     ensures { λ r. ⌜ r ≡ tally s (lostAt s t (now (img .entry)) (now (marks .entry))) ⌝ }
@@ -108,7 +110,7 @@ fn lost(img: &[u32], p: usize, s: usize, t: usize, marks: &[u32; 1024]) -> usize
 }
 
 // A place that is not noted becomes free.
-fn settle(img: &mut [u32], p: usize, s: usize, marks: &[u32; 1024], j: usize)
+fn settle(img: &mut [u32], p: usize, s: usize, marks: &[u32; Name::LIMIT], j: usize)
     requires { ⌜ Within p s (now img) ⌝ }
     requires { ⌜ j < p * s ⌝ }
     ensures { λ _. ⌜ (now (img .exit) ≡ settleOf s (now (marks .entry)) (now (img .entry)) j) × Within p s (now (img .exit)) ⌝ }
@@ -120,7 +122,7 @@ fn settle(img: &mut [u32], p: usize, s: usize, marks: &[u32; 1024], j: usize)
 }
 
 // All places of partition t that are not noted become free.
-fn free(img: &mut [u32], p: usize, s: usize, t: usize, marks: &[u32; 1024])
+fn free(img: &mut [u32], p: usize, s: usize, t: usize, marks: &[u32; Name::LIMIT])
     requires { ⌜ Within p s (now img) ⌝ }
     requires { ⌜ t < p ⌝ }
     ensures { λ _. ⌜ now (img .exit) ≡ each s (λ x k. settleOf s (now (marks .entry)) x (t * s + k)) (now (img .entry)) ⌝ }
@@ -147,7 +149,7 @@ pub fn local(img: &mut [u32], p: usize, s: usize, t: Partition) -> usize
 }
 
 // What field f of partition t's fields names outside t is marked, if it is an object's.
-fn mark_out(img: &[u32], p: usize, s: usize, t: usize, f: usize, bits: &mut [u32; 1024])
+fn mark_out(img: &[u32], p: usize, s: usize, t: usize, f: usize, bits: &mut [u32; Name::LIMIT])
     requires { ⌜ FieldOf p s (now img) t f (now bits) ⌝ }
     ensures { λ _. ⌜ (now (bits .exit) ≡ outOne s t (now (img .entry)) (now (bits .entry)) f) × (length (now (bits .exit)) ≡ mostPlaces) ⌝ }
 {
@@ -168,9 +170,9 @@ fn mark_out(img: &[u32], p: usize, s: usize, t: usize, f: usize, bits: &mut [u32
 }
 
 // What the fields of partition t's objects name outside t is marked.
-fn mark_outs(img: &[u32], p: usize, s: usize, t: usize, bits: &mut [u32; 1024])
+fn mark_outs(img: &[u32], p: usize, s: usize, t: usize, bits: &mut [u32; Name::LIMIT])
     requires { ⌜ Within p s (now img) ⌝ }
-    requires { ⌜ (t < p) × (now bits ≡ replicate 1024 0) ⌝ }
+    requires { ⌜ (t < p) × (now bits ≡ replicate mostPlaces 0) ⌝ }
     ensures { λ _. ⌜ now (bits .exit) ≡ outBits s t (now (img .entry)) ⌝ }
 {
     let n = 4 * s;
@@ -184,7 +186,7 @@ fn mark_outs(img: &[u32], p: usize, s: usize, t: usize, bits: &mut [u32; 1024])
 // The name of place i, if it is marked, is put at the list's end.
 fn put_name(
     s: usize,
-    bits: &[u32; 1024],
+    bits: &[u32; Name::LIMIT],
     i: usize,
     names: &mut [u32; Outlist::LIMIT],
     n: usize,
@@ -201,7 +203,7 @@ fn put_name(
 }
 
 // The names of all marked places, in order.
-fn gather(p: usize, s: usize, bits: &[u32; 1024]) -> Outlist
+fn gather(p: usize, s: usize, bits: &[u32; Name::LIMIT]) -> Outlist
     requires { ⌜ Gathers p s (now bits) ⌝ }
     ensures { λ r. ⌜ r ≡ listNames (p * s) s (now (bits .entry)) ⌝ }
 {

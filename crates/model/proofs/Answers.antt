@@ -5,7 +5,7 @@ use mathlib.Core.Path.{refl}
 use mathlib.Core.Bool.{cond}
 use mathlib.Core.List.{List, [], _∷_, _++_}
 use Rattle.loops.specs.Cases.{case, Agree}
-use Rattle.kinds.specs.Names.{partition, named, session}
+use Rattle.kinds.specs.Names.{partition, named, session, radix}
 use Rattle.kinds.specs.Operations.{new, set-to, val, root-to, unroot, three}
 use Rattle.kinds.specs.declared.Single.the-variants.{Open, Trace, Close, Local, Hold, Drop}
 use Rattle.kinds.specs.declared.Verdict.{Verdict}
@@ -125,7 +125,7 @@ pub held-rows :
     -- the question starts from handles as well, 16 counts them as roots, and soundness covers them
     case (number (cond (ask 2 4 (after (blank 2 4) beside) 3) 1 0)) (number 0) ∷
     case (number (cond (ask 2 4 (after (blank 2 4) (beside ++ (hold 0 0 2 ∷ []))) 3) 1 0)) (number 1) ∷
-    case (shown (judge 2 4 (put (after (blank 2 4) traced-all) (handle 0) 65) (single Close)) (blank 2 4)) (refused 16 0) ∷
+    case (shown (judge 2 4 (put (after (blank 2 4) traced-all) (handle 0) (radix + 1)) (single Close)) (blank 2 4)) (refused 16 0) ∷
     case (number (cond (isSound (blank 2 4)) 1 0)) (number 1) ∷ case (number (cond (isSound (put (blank 2 4) (handle 31) 1)) 1 0)) (number 0) ∷
     -- refusals of hold: 7 for the handle and for the name, 9; of drop: 7
     case (says [] (hold 32 0 0)) (refused 7 0) ∷ case (says [] (hold 0 2 0)) (refused 7 0) ∷ case (says [] (hold 0 0 4)) (refused 7 0) ∷

@@ -11,11 +11,11 @@ use lib.Seq.{getD-set-same, getD-set-other}
 use Rattle.loops.specs.Loop.{bit, each, tally}
 use Rattle.loops.proofs.Tests.{clash, eq-or-ne, lt-or-ge}
 use Rattle.loops.proofs.Turns.{tally-more}
-use Rattle.kinds.specs.Names.{mostSlots}
+use Rattle.kinds.specs.Names.{mostSlots, mostPlaces, mostNames, radix}
 use Rattle.kinds.specs.Answers.{noNames}
 use Rattle.kinds.specs.declared.Outlist.{Outlist}
 use Rattle.model.specs.Questions.{Bits, hasBit}
-use Rattle.model.specs.Outlist.{mostPlaces, nameAt, noteName, nameOne, listNames}
+use Rattle.model.specs.Outlist.{nameAt, noteName, nameOne, listNames}
 use Rattle.model.proofs.Keys.{zeros}
 
 -- tallies of beginnings
@@ -36,10 +36,10 @@ module _ (S : ℕ) (some : 0 < S) where
   unfolding nameAt
   name-rises wide i j l = ⊎-elim less more (lt-or-ge (i / S) (j / S))
     where
-      less : i / S < j / S → i / S * 64 + i % S + 1 < j / S * 64 + j % S + 1
+      less : i / S < j / S → i / S * radix + i % S + 1 < j / S * radix + j % S + 1
       less q = let m = mod-lt i some in omega arith
 
-      more : j / S ≤ i / S → i / S * 64 + i % S + 1 < j / S * 64 + j % S + 1
+      more : j / S ≤ i / S → i / S * radix + i % S + 1 < j / S * radix + j % S + 1
       more q =
           let a = div-add-mod' i S in
           let b = div-add-mod' j S in
@@ -59,7 +59,7 @@ module _ (S : ℕ) (some : 0 < S) where
 -- the list so far: the names of the marked places below m
 pub record Listed (S : ℕ) (bits : Bits) (m : ℕ) (o : Outlist) : Type 0 where
   pub counted : o .number ≡ tally m (hasBit bits)
-  pub long : length (o .names) ≡ 256
+  pub long : length (o .names) ≡ mostNames
   pub held : (a : ℕ) → a < o .number → (i : ℕ) × (i < m) × (hasBit bits i ≡ true) × (getD (o .names) a 0 ≡ nameAt S i)
   pub all : (i : ℕ) → i < m → hasBit bits i ≡ true → (a : ℕ) × (a < o .number) × (getD (o .names) a 0 ≡ nameAt S i)
   pub ordered : (a b : ℕ) → a < b → b < o .number → getD (o .names) a 0 < getD (o .names) b 0
@@ -70,15 +70,15 @@ unfolding tally
 listed-none S bits =
     record {
       counted = refl;
-      long = length-replicate {A = ℕ} 256 0;
+      long = length-replicate {A = ℕ} mostNames 0;
       held = λ a l. absurd (omega arith);
       all = λ i l. absurd (omega arith);
       ordered = λ a b l k. absurd (omega arith);
-      unused = λ a l. zeros 256 a;
+      unused = λ a l. zeros mostNames a;
     }
 
-module _ (S : ℕ) (some : 0 < S) (wide : S ≤ mostSlots) (bits : Bits) (few : tally mostPlaces (hasBit bits) ≤ 256) (m : ℕ) (lm : m < mostPlaces) where
-  pub listed-room : (o : Outlist) → Listed S bits m o → hasBit bits m ≡ true → o .number < 256
+module _ (S : ℕ) (some : 0 < S) (wide : S ≤ mostSlots) (bits : Bits) (few : tally mostPlaces (hasBit bits) ≤ mostNames) (m : ℕ) (lm : m < mostPlaces) where
+  pub listed-room : (o : Outlist) → Listed S bits m o → hasBit bits m ≡ true → o .number < mostNames
   listed-room o r e =
       let b : bit (hasBit bits m) ≡ 1 = rw e in
       let t = tally-more (hasBit bits) m _ refl in
@@ -123,7 +123,7 @@ module _ (S : ℕ) (some : 0 < S) (wide : S ≤ mostSlots) (bits : Bits) (few : 
           before : (a : ℕ) → a ≢ o .number → getD (set (o .names) (o .number) (nameAt S m)) a 0 ≡ getD (o .names) a 0
           before a ne = getD-set-other (o .names) (o .number) a (nameAt S m) 0 ne
 
-pub listed : (S : ℕ) → 0 < S → S ≤ mostSlots → (bits : Bits) → tally mostPlaces (hasBit bits) ≤ 256 → (n : ℕ) → n ≤ mostPlaces → Listed S bits n (listNames n S bits)
+pub listed : (S : ℕ) → 0 < S → S ≤ mostSlots → (bits : Bits) → tally mostPlaces (hasBit bits) ≤ mostNames → (n : ℕ) → n ≤ mostPlaces → Listed S bits n (listNames n S bits)
 unfolding listNames each
 listed S some wide bits few zero l = listed-none S bits
 listed S some wide bits few (suc n) l =

@@ -14,12 +14,12 @@ use Rattle.loops.specs.Loop.{both, each, tally}
 use Rattle.loops.proofs.Tests.{both-true, bit-le, lt-or-ge, is-false}
 use Rattle.loops.proofs.Loops.{tally-same, tally-move}
 use Rattle.loops.proofs.Walks.{tally-none-pass}
-use Rattle.kinds.specs.Names.{radix, mostPartitions, mostSlots}
+use Rattle.kinds.specs.Names.{radix, mostPartitions, mostSlots, mostPlaces, mostNames}
 use Rattle.model.specs.Image.{Image, field, get, placeOf, partOf, abroad, a-field}
 use Rattle.model.specs.Acts.{used}
 use Rattle.model.specs.Questions.{Bits, hasBit, addBit, collect}
 use Rattle.model.specs.Sound.{SoundAt}
-use Rattle.model.specs.Outlist.{mostPlaces, wordOut, goesOut, goesTo, outBits, nameAt, listNames, outlist, HoldsOut, Outlisted}
+use Rattle.model.specs.Outlist.{wordOut, goesOut, goesTo, outBits, nameAt, listNames, outlist, HoldsOut, Outlisted}
 use Rattle.model.proofs.Places.{part-of, slot-in, slot-of}
 use Rattle.model.proofs.Bits.{Wide, bit-other, bit-wide, none-wide, none-has, collect-only, collect-has}
 use Rattle.model.proofs.SoundnessMoves.{reference-place}
@@ -67,7 +67,7 @@ module _ (P S p : ℕ) (inp : p < P) (x : Image) (s : SoundAt P S x) where
   places : P * S ≤ mostPlaces
   places = mul-le-mul {n₁ = P} {m₁ = S} {n₂ = mostPartitions} {m₂ = mostSlots} (s .limits .partitions-most) (s .limits .slots-most)
 
-  few-out : tally mostPlaces (hasBit (outBits S p x)) ≤ 256
+  few-out : tally mostPlaces (hasBit (outBits S p x)) ≤ mostNames
   few-out = omega (arith, out-tally S p x .1, s .limits .slots-most)
 
   -- a word that leads from p abroad is a name outside p

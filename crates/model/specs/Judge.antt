@@ -27,7 +27,7 @@ unfoldable pub andThen : Verdict → Verdict → Verdict
 andThen Accepted v = v
 andThen (Refused r) v = Refused r
 
--- P is 1 to 16, S is 1 to 64
+-- P is 1 to 16, S is 1 to 128
 unfoldable pub inLimits : ℕ → ℕ → Bool
 inLimits P S = both (both (ltb 0 P) (leb P mostPartitions)) (both (ltb 0 S) (leb S mostSlots))
 

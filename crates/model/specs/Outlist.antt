@@ -6,16 +6,12 @@ use mathlib.Core.Bool.{Bool, cond}
 use mathlib.Core.Logic.{_≢_}
 use lib.ListN.{getD, set, replicate, length}
 use Rattle.loops.specs.Loop.{both, each}
-use Rattle.kinds.specs.Names.{radix, mostPartitions, mostSlots}
+use Rattle.kinds.specs.Names.{radix, mostPlaces, mostNames}
 use Rattle.kinds.specs.Answers.{noNames}
 use Rattle.kinds.specs.declared.Outlist.{Outlist}
 use Rattle.model.specs.Image.{Image, state, field, get, placeOf, partOf, abroad}
 use Rattle.model.specs.Acts.{used}
 use Rattle.model.specs.Questions.{Bits, hasBit, addBit, collect}
-
--- as many places as there can be
-abbrev pub mostPlaces : ℕ
-mostPlaces = mostPartitions * mostSlots
 
 -- of p's 4·S fields, number f is field f % 4 of slot f / 4: whether it is an object's and leads out of p, and where to
 abbrev pub wordOut : ℕ → ℕ → Image → ℕ → ℕ
@@ -62,9 +58,9 @@ pub record HoldsOut (S p : ℕ) (x : Image) (j k w : ℕ) : Type 0 where
   pub some : w ≢ 0
   pub foreign : partOf S (placeOf S w) ≢ p
 
--- o is the outlist of p: in order, without repeats, exactly the foreign names that fields of p's objects in use hold; at most 4·S of 256 words, and 0 beyond
+-- o is the outlist of p: in order, without repeats, exactly the foreign names that fields of p's objects in use hold; at most 4·S of them, and 0 beyond
 pub record Outlisted (S p : ℕ) (x : Image) (o : Outlist) : Type 0 where
-  pub long : length (o .names) ≡ 256
+  pub long : length (o .names) ≡ mostNames
   pub few : o .number ≤ 4 * S
   pub ordered : (a b : ℕ) → a < b → b < o .number → getD (o .names) a 0 < getD (o .names) b 0
   pub held : (a : ℕ) → a < o .number → (j : ℕ) × (k : ℕ) × HoldsOut S p x j k (getD (o .names) a 0)

@@ -98,7 +98,7 @@ pub record OpenHead (P S : ℕ) (x : Image) : Type 0 where
   pub allowed : get x allowance ≤ P + P * S
   pub counted : get x count ≤ get x allowance
 
--- P is 1 to 16, S is 1 to 64
+-- P is 1 to 16, S is 1 to 128
 pub record Limits (P S : ℕ) : Type 0 where
   pub some-partition : 0 < P
   pub partitions-most : P ≤ mostPartitions

@@ -54,7 +54,7 @@ pub test-sound : (img : Image) → Tests (isSound img) (Unsound img)
 test-sound img = record { fails = λ e s. clash (sound-back img s) e; passes = λ e u. u (sound-true img e) }
 
 -- 2
-pub test-size : (P S n : ℕ) → Tests (both (inLimits P S) (eqb n (size P S))) (WrongSize P S n)
+pub test-size : (P S n : ℕ) → Tests (both (inLimits P S) (eqb n (size P S))) (WrongSize mostSlots P S n)
 unfolding inLimits
 test-size P S n =
     test-as _ _ _
@@ -66,12 +66,30 @@ test-size P S n =
     (test-both _ _ _ _ (test-both _ _ _ _ (test-lt 0 P) (test-le P mostPartitions)) (test-both _ _ _ _ (test-lt 0 S) (test-le S mostSlots)))
     (test-eq n (size P S)))
   where
-    back : WrongSize P S n → (((P ≤ 0) ⊎ (mostPartitions < P)) ⊎ ((S ≤ 0) ⊎ (mostSlots < S))) ⊎ (n ≢ size P S)
+    back : WrongSize mostSlots P S n → (((P ≤ 0) ⊎ (mostPartitions < P)) ⊎ ((S ≤ 0) ⊎ (mostSlots < S))) ⊎ (n ≢ size P S)
     back (no-partition l) = inl (inl (inl (omega arith)))
     back (many-partitions l) = inl (inl (inr l))
     back (no-slot l) = inl (inr (inl (omega arith)))
     back (many-slots l) = inl (inr (inr l))
     back (wrong-length l) = inr l
+
+-- and where S is at most m besides
+pub test-size-below : (m P S n : ℕ) → m ≤ mostSlots → Tests (both (leb S m) (both (inLimits P S) (eqb n (size P S)))) (WrongSize m P S n)
+test-size-below m P S n few = test-as _ _ _ (⊎-elim many-slots fewer) back (test-both _ _ _ _ (test-le S m) (test-size P S n))
+  where
+    fewer : WrongSize mostSlots P S n → WrongSize m P S n
+    fewer (no-partition l) = no-partition l
+    fewer (many-partitions l) = many-partitions l
+    fewer (no-slot l) = no-slot l
+    fewer (many-slots l) = many-slots (omega arith)
+    fewer (wrong-length l) = wrong-length l
+
+    back : WrongSize m P S n → (m < S) ⊎ WrongSize mostSlots P S n
+    back (no-partition l) = inr (no-partition l)
+    back (many-partitions l) = inr (many-partitions l)
+    back (no-slot l) = inr (no-slot l)
+    back (many-slots l) = inl l
+    back (wrong-length l) = inr (wrong-length l)
 
 -- 7
 pub test-name : (P S : ℕ) (n : Name) → Tests (inHeap P S n) (TooLarge P S n)

@@ -23,6 +23,7 @@ use Rattle.model.specs.Judge.{check}
 use Rattle.model.specs.Sound.{isSound}
 use Rattle.model.proofs.SoundnessActs.{zeros-unsound}
 use Rattle.lines.specs.Line.{tailOk}
+use Rattle.writer.specs.Record.{termsOf}
 use Rattle.journal.specs.Recover.{Stand, early, going, stopped, reader, feedAll, refusal, recovery, atEnd, answer, recoverOf}
 use Rattle.catalogue.specs.Answers.{Said, refusedWith, said, totals, saidClosing, yield, saidFreeing, saidListing, saidReading, saidAsked}
 use Rattle.catalogue.specs.Call.{perform, judgeAct, judgeCommit, judgeForeign, judgeObject, callBy, callOf, commitOf, closeOf, localOf, listingOf, readingOf, askedOf}
@@ -39,7 +40,7 @@ refused-recovery log len ne = by (feedAll len (reader early [] 0) log .stand) (f
     by : (s : Stand) (t : List ℕ) → (atEnd len s t) .verdict ≢ Accepted → ((atEnd len s t) .image ≡ replicate len 0) × ((atEnd len s t) .kept ≡ 0)
     by early t ne = (refl, refl)
     by (stopped k l) t ne = (refl, refl)
-    by (going h y w n kept) t ne = step (tailOk t) ne
+    by (going h y w n kept) t ne = step (tailOk (termsOf h .bytes) t) ne
       where
         step : (b : Bool) → (cond b (recovery kept y) (refusal len 4 (n + 1))) .verdict ≢ Accepted
             → ((cond b (recovery kept y) (refusal len 4 (n + 1))) .image ≡ replicate len 0) × ((cond b (recovery kept y) (refusal len 4 (n + 1))) .kept ≡ 0)

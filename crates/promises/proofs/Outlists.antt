@@ -1,5 +1,5 @@
 -- What outlist answers: the foreign names that fields of p's objects in use hold, in order and without repeats (model/specs/Outlist.antt); and no other list of
--- 256 names is so.
+-- 512 names is so.
 -- Assumes nothing.
 use Prim.Native.Nat.{ℕ, zero, suc, _≤_, _<_}
 use mathlib.Core.Path.{_≡_, refl, sym, ap, _∙_}

@@ -65,7 +65,7 @@ module _ (w : Image) (acts : List Act) (x : Image) (c : Call) (log : List ℕ) (
   replayed-called {h} wd r =
       let j = call-leaves (h .P) (h .S) x c log at (replayed-headed r) z in
       let s = acted (actOf c) (replayed-run r) (j .0) in
-      record { history = history-of h (r .history .edition) (r .history .range) (wd, r .history .words) s; image-is = j .1 ∙ replayed h s }
+      record { history = history-of h (r .history .edition) (r .history .range) (r .history .narrow) (wd, r .history .words) s; image-is = j .1 ∙ replayed h s }
 
 stands-called : (w : Image) (o : Origin) (acts : List Act) (x : Image) (c : Call) (log : List ℕ) (at : ℕ) → Worded c → (calling x c log at) .number ≡ 0 → Stands w o acts x
     → Stands w o (actOf c ∷ acts) ((calling x c log at) .image)

@@ -12,7 +12,7 @@ use lib.ListN.{length, take}
 use lib.Seq.{length-take-le}
 use borrow.Author.Tests.{eqb-true, eqb-false, leb-true, leb-false}
 use Rattle.loops.specs.Loop.{both}
-use Rattle.kinds.specs.Names.{mostOperations, roots, handles}
+use Rattle.kinds.specs.Names.{mostSlots, mostOperations, roots, handles}
 use Rattle.kinds.specs.Answers.{blankRecord, noNames}
 use Rattle.kinds.specs.declared.Name.{Name}
 use Rattle.kinds.specs.declared.Partition.{Partition}
@@ -77,7 +77,7 @@ settled-operations P S img e (o ∷ os) =
     settled-then (operationRows P S img e o) (operationsRows P S (perform S img o) (e + 1) os) (settled-operation P S img e o) (settled-operations P S (perform S img o) (e + 1) os)
 
 -- two tests of one number
-check-both : (a b : Bool) (n e : ℕ) (u : Verdict) → check (both a b) n e u ≡ check a n e (check b n e u)
+pub check-both : (a b : Bool) (n e : ℕ) (u : Verdict) → check (both a b) n e u ≡ check a n e (check b n e u)
 unfolding check
 check-both true b n e u = refl
 check-both false b n e u = refl
@@ -140,7 +140,7 @@ pub format-first : (img : Image) (P S : ℕ) (log : List ℕ) (at : ℕ)
     → First 0 (length (headingOf (newest P S))) (formatRows img P S log at) (said ((formatOf img P S log at) .answer))
 unfolding formatOf judgeFormat
 format-first img P S log at =
-    logged-first said 0 _ Done NotDone _ (headingOf (newest P S)) _ img log at (given 2 0 (WrongSize P S (lengthOf img)) ∷ []) refl (λ r. refl) (found-check _ 2 0 _ _ _ (test-size P S (lengthOf img)) found-none)
+    logged-first said 0 _ Done NotDone _ (headingOf (newest P S)) _ img log at (given 2 0 (WrongSize mostSlots P S (lengthOf img)) ∷ []) refl (λ r. refl) (found-check _ 2 0 _ _ _ (test-size P S (lengthOf img)) found-none)
 
 pub format-exactly : (img : Image) (P S : ℕ) (log : List ℕ) (at : ℕ) (s : Said ℕ) → First 0 (length (headingOf (newest P S))) (formatRows img P S log at) s
     → s ≡ said ((formatOf img P S log at) .answer)

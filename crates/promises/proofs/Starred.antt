@@ -14,12 +14,14 @@ use Rattle.loops.specs.Cases.{case, from-to, Agree}
 use Rattle.loops.specs.Loop.{both}
 use Rattle.loops.proofs.Tests.{both-true}
 use Rattle.kinds.specs.Names.{partition, named, session as handle-of, wordOf}
+use Rattle.kinds.specs.Editions.{terms}
 use Rattle.kinds.specs.Answers.{refuse}
 use Rattle.kinds.specs.Operations.{new, set-to, root-to, unroot, three}
 use Rattle.kinds.specs.declared.Name.{Name}
 use Rattle.kinds.specs.declared.Handle.{Handle}
 use Rattle.kinds.specs.declared.Target.the-variants.{Object}
 use Rattle.kinds.specs.declared.Single.the-variants.{Close, Local, Hold, Drop}
+use Rattle.kinds.specs.declared.Verdict.the-variants.{Accepted}
 use Rattle.lines.proofs.Computing.{reading, printing}
 use Rattle.model.proofs.Computing.{imaging, looping, acting, judging, sounding, listing}
 use Rattle.lines.specs.declared.line.Line.the-variants.{Operation, Single}
@@ -35,7 +37,7 @@ use Rattle.writer.specs.Record.{rule, opLines, recordOf, headingOf}
 use Rattle.writer.specs.Write.{splice}
 use Rattle.journal.proofs.Demand.{demand-2}
 use Rattle.journal.specs.Log.{logOf, replay, whole, History}
-use Rattle.journal.specs.Recover.{act, headed, feed, feedAll, refusal, recovery, answer, recoverOf, byteBy, byteOf}
+use Rattle.journal.specs.Recover.{act, judgeHeading, headed, feed, feedAll, refusal, recovery, answer, recoverOf, byteBy, byteOf}
 use Rattle.catalogue.specs.Call as call
 use Rattle.catalogue.specs.Call.{judgeAct, judgeCommit, judgeForeign, formatOf, callBy, commitOf, listingOf}
 use Rattle.promises.specs.Calls.{Call, actOf, calling}
@@ -48,7 +50,7 @@ unfolding recordOf headingOf logOf splice
 logging = tt
 
 recovering : Unit {0}
-unfolding act headed feed feedAll answer recoverOf body after byteBy
+unfolding act judgeHeading headed feed feedAll answer recoverOf body after byteBy
 recovering = tt
 
 performing : Unit {0}
@@ -56,20 +58,20 @@ unfolding call.perform judgeAct judgeCommit judgeForeign formatOf callBy commitO
 performing = tt
 
 -- the paper's transaction is a history under a heading of each edition
-transacted : (e : ℕ) → Edition e → History (rule e 2 4) (commit three ∷ [])
+transacted : (e : ℕ) → Edition e → 4 ≤ terms e .slots → History (rule e 2 4) (commit three ∷ [])
 unfolding imaging looping acting judging replay
-transacted e known =
-    record { edition = known; range = refl; words = ((omega arith, (omega arith, (omega arith, (tt, (tt, (tt, tt)))))), tt); run = acted (commit three) still refl }
+transacted e known narrow =
+    record { edition = known; range = refl; narrow = narrow; words = ((omega arith, (omega arith, (omega arith, (tt, (tt, (tt, tt)))))), tt); run = acted (commit three) still refl }
 
 -- so by demand 2 the cuts from 11 to 88 bytes, within its record, leave the formatting alone
-cut-at : (e : ℕ) → Edition e → length (headingOf (rule e 2 4)) ≡ 11 → take 89 (paperLog e) ≡ logOf (rule e 2 4) (commit three ∷ [])
+cut-at : (e : ℕ) → Edition e → 4 ≤ terms e .slots → length (headingOf (rule e 2 4)) ≡ 11 → take 89 (paperLog e) ≡ logOf (rule e 2 4) (commit three ∷ [])
     → (k : ℕ) → 11 ≤ k → k ≤ 88 → recoverOf (take k (paperLog e)) 125 ≡ recovery 11 (blank 2 4)
 unfolding whole logOf replay size
-cut-at e known eleven begins k lo hi =
+cut-at e known narrow eleven begins k lo hi =
     let record-end : length (logOf (rule e 2 4) (commit three ∷ [])) ≡ 89 = sym (ap length begins) in
     let none : whole (rule e 2 4) (commit three ∷ []) k ≡ [] = rw (lt-leb (length (logOf (rule e 2 4) (commit three ∷ []))) k (omega arith)) in
     ap (λ (zs : List ℕ). recoverOf zs 125) (sym (take-take k 89 (paperLog e) (omega arith)) ∙ ap (take k) begins)
-    ∙ demand-2 (rule e 2 4) (commit three ∷ []) (transacted e known) k (omega arith)
+    ∙ demand-2 (rule e 2 4) (commit three ∷ []) (transacted e known narrow) k (omega arith)
     ∙ ap (λ (acts : List Act). recovery (length (logOf (rule e 2 4) acts)) (replay (rule e 2 4) acts)) none
     ∙ ap (λ (n : ℕ). recovery n (blank 2 4)) eleven
 
@@ -100,9 +102,13 @@ browsing =
 abbrev collecting : List Call
 collecting = opening ∷ tracing 0 ∷ tracing 1 ∷ tracing 0 ∷ closing ∷ localizing 1 ∷ localizing 0 ∷ []
 
+-- a log with a heading of edition e, and more behind it
+abbrev behind : ℕ → List ℕ → List ℕ
+behind e more = headingOf (rule e 2 4) ++ more
+
 -- the log of a formatting, and a later heading of edition e
 abbrev headings : ℕ → List ℕ
-headings e = headingOf (rule 3 2 4) ++ headingOf (rule e 2 4)
+headings e = behind 4 (headingOf (rule e 2 4))
 
 -- the line of a hold
 abbrev hold-line : List ℕ
@@ -112,18 +118,26 @@ hold-line = recordOf (single (Hold (handle-of 31) (named 0 1)))
 abbrev overlong : List ℕ
 overlong = print (Operation (new 4294967295 4294 0))
 
+-- the longest line of a heap, 21 bytes: `new` 15 100 4294967295
+abbrev longest-line : List ℕ
+longest-line = print (Operation (new 15 100 4294967295))
+
+-- a heading of edition e with the largest number as P: 21 bytes where S has three digits
+abbrev wide : ℕ → ℕ → List ℕ
+wide e S = headingOf (rule e 4294967295 S)
+
 -- the paper's log, a byte of its line 5 altered
 abbrev altered : List ℕ
-altered = take 49 (paperLog 3) ++ (120 ∷ drop 50 (paperLog 3))
+altered = take 49 (paperLog 4) ++ (120 ∷ drop 50 (paperLog 4))
 
 -- THE STARRED NUMBERS. The first reply of a session is its formatting's.
 pub table :
     Agree
-    -- P = 2, S = 4: 125 words; object (1,0) begins at 97, its name is 65
+    -- P = 2, S = 4: 125 words; object (1,0) begins at 97, its name is 129
     (case (size 2 4) 125 ∷ case (lengthOf (session [] .image)) 125 ∷
-    case (addr (state (place 4 (named 1 0)))) 97 ∷ case (wordOf (Object (named 1 0))) 65 ∷
+    case (addr (state (place 4 (named 1 0)))) 97 ∷ case (wordOf (Object (named 1 0))) 129 ∷
     -- the paper's log, which these calls write, the bytes after it left as they were: allowance 4, count 4, 0 freed
-    case (session (committing three ∷ four-traces) .log) (paperLog 3 ++ replicate 68 255) ∷
+    case (session (committing three ∷ four-traces) .log) (paperLog 4 ++ replicate 68 255) ∷
     case (session (committing three ∷ four-traces) .replies) (done ∷ done ∷ opened 4 ∷ done ∷ done ∷ done ∷ done ∷ closed 4 0 ∷ []) ∷
     -- with an unreferenced (1,1): allowance 5, 1 freed
     case (session (committing (three ++ (new 1 1 40 ∷ [])) ∷ four-traces) .replies)
@@ -145,21 +159,22 @@ pub table :
     case (session (committing three ∷ opening ∷ tracing 0 ∷ tracing 0 ∷ []) .replies) (done ∷ done ∷ opened 4 ∷ done ∷ refused 13 0 ∷ []) ∷
     -- the paper's log, of each edition, cut at 10 bytes: 3 and line 1, zeros
     case (recoverOf (take 10 (paperLog 1)) 125) (refusal 125 3 1) ∷ case (recoverOf (take 10 (paperLog 2)) 125) (refusal 125 3 1) ∷
-    case (recoverOf (take 10 (paperLog 3)) 125) (refusal 125 3 1) ∷
+    case (recoverOf (take 10 (paperLog 3)) 125) (refusal 125 3 1) ∷ case (recoverOf (take 10 (paperLog 4)) 125) (refusal 125 3 1) ∷
     -- at 11 to 88: empty heap, kept 11
     from-to 11 88 (λ k. recoverOf (take k (paperLog 1)) 125) (recovery 11 (blank 2 4)) ∷
     from-to 11 88 (λ k. recoverOf (take k (paperLog 2)) 125) (recovery 11 (blank 2 4)) ∷
     from-to 11 88 (λ k. recoverOf (take k (paperLog 3)) 125) (recovery 11 (blank 2 4)) ∷
+    from-to 11 88 (λ k. recoverOf (take k (paperLog 4)) 125) (recovery 11 (blank 2 4)) ∷
     -- at 89: three objects, kept 89
     case (recoverOf (take 89 (paperLog 1)) 125) (recovery 89 threeObjects) ∷ case (recoverOf (take 89 (paperLog 2)) 125) (recovery 89 threeObjects) ∷
-    case (recoverOf (take 89 (paperLog 3)) 125) (recovery 89 threeObjects) ∷
+    case (recoverOf (take 89 (paperLog 3)) 125) (recovery 89 threeObjects) ∷ case (recoverOf (take 89 (paperLog 4)) 125) (recovery 89 threeObjects) ∷
     -- whole: kept 132, the three objects again
     case (recoverOf (paperLog 1) 125) (recovery 132 threeObjects) ∷ case (recoverOf (paperLog 2) 125) (recovery 132 threeObjects) ∷
-    case (recoverOf (paperLog 3) 125) (recovery 132 threeObjects) ∷
+    case (recoverOf (paperLog 3) 125) (recovery 132 threeObjects) ∷ case (recoverOf (paperLog 4) 125) (recovery 132 threeObjects) ∷
     [])
 unfolding reading printing logging imaging looping acting judging recovering sounding listing performing
 table =
-    (refl, (refl, (refl, (refl, (refl, (refl, (refl, (refl, (refl, (refl, (refl, (refl, (refl, (refl, (refl, (refl, (cut-at 1 refl refl refl, (cut-at 2 refl refl refl, (cut-at 3 refl refl refl, (refl, (refl, (refl, (refl, (refl, (refl, tt)))))))))))))))))))))))))
+    (refl, (refl, (refl, (refl, (refl, (refl, (refl, (refl, (refl, (refl, (refl, (refl, (refl, (refl, (refl, (refl, (refl, (cut-at 1 refl (omega arith) refl refl, (cut-at 2 refl (omega arith) refl refl, (cut-at 3 refl (omega arith) refl refl, (cut-at 4 refl (omega arith) refl refl, (refl, (refl, (refl, (refl, (refl, (refl, (refl, (refl, tt)))))))))))))))))))))))))))))
 
 -- OUR OWN, beside them
 pub own-table :
@@ -172,7 +187,7 @@ pub own-table :
     -- on an empty heap: 12, and of partition 2: 7
     case (session (localizing 0 ∷ localizing 2 ∷ []) .replies) (done ∷ refused 12 0 ∷ refused 7 0 ∷ []) ∷
     -- the outlist of partition 1 is the name of (0,3)
-    case ((listingOf (session (garbage ∷ []) .image) (partition 1)) .outlist) (record { number = 1; names = 4 ∷ replicate 255 0 }) ∷
+    case ((listingOf (session (garbage ∷ []) .image) (partition 1)) .outlist) (record { number = 1; names = 4 ∷ replicate 511 0 }) ∷
     -- what a session holds is kept through a phase and by local collections though its root expired, with what it refers to; a drop frees nothing; then
     -- the collections free both
     case (session (browsing ++ (collecting ++ (dropping 31 ∷ localizing 1 ∷ localizing 0 ∷ []))) .replies)
@@ -191,33 +206,47 @@ pub own-table :
     case (session (committing three ∷ holding 0 1 0 ∷ holding 0 0 1 ∷ []) .replies) (done ∷ done ∷ done ∷ done ∷ []) ∷
     -- a later heading is 5 where its edition exists, else 4, and 3 as the first line
     case (recoverOf (headings 1) 125) (refusal 125 5 2) ∷ case (recoverOf (headings 2) 125) (refusal 125 5 2) ∷ case (recoverOf (headings 3) 125) (refusal 125 5 2) ∷
-    case (recoverOf (headings 4) 125) (refusal 125 4 2) ∷ case (recoverOf (headingOf (rule 4 2 4)) 125) (refusal 125 3 1) ∷
+    case (recoverOf (headings 4) 125) (refusal 125 5 2) ∷ case (recoverOf (headings 5) 125) (refusal 125 4 2) ∷ case (recoverOf (headingOf (rule 5 2 4)) 125) (refusal 125 3 1) ∷
     -- a local line and a hold line within a transaction: 5; else they are good under a heading of each edition, and the handle holds what was logged
-    case (recoverOf (headingOf (rule 3 2 4) ++ (opLines (new 0 0 1 ∷ []) ++ recordOf (single (Local (partition 0))))) 125) (refusal 125 5 3) ∷
-    case (recoverOf (headingOf (rule 3 2 4) ++ (opLines (new 0 1 1 ∷ []) ++ hold-line)) 125) (refusal 125 5 3) ∷
+    case (recoverOf (behind 4 (opLines (new 0 0 1 ∷ []) ++ recordOf (single (Local (partition 0))))) 125) (refusal 125 5 3) ∷
+    case (recoverOf (behind 4 (opLines (new 0 1 1 ∷ []) ++ hold-line)) 125) (refusal 125 5 3) ∷
     case (recoverOf (paperLog 1 ++ (recordOf (single (Local (partition 0))) ++ hold-line)) 125) (recovery 152 (threeHolding 2)) ∷
     case (recoverOf (paperLog 2 ++ (recordOf (single (Local (partition 0))) ++ hold-line)) 125) (recovery 152 (threeHolding 2)) ∷
     case (recoverOf (paperLog 3 ++ (recordOf (single (Local (partition 0))) ++ hold-line)) 125) (recovery 152 (threeHolding 2)) ∷
-    case (recoverOf (paperLog 3 ++ (hold-line ++ recordOf (single (Drop (handle-of 31))))) 125) (recovery 152 threeObjects) ∷
+    case (recoverOf (paperLog 4 ++ (recordOf (single (Local (partition 0))) ++ hold-line)) 125) (recovery 152 (threeHolding 2)) ∷
+    case (recoverOf (paperLog 4 ++ (hold-line ++ recordOf (single (Drop (handle-of 31))))) 125) (recovery 152 threeObjects) ∷
     -- a tail under a heading of each edition: a whole line without its end, and what a line of 20 bytes begins with, are dropped; a digit more, other text, and
     -- the beginning of a heading are 4
-    case (recoverOf (headingOf (rule 1 2 4) ++ print (Single Close)) 125) (recovery 11 (blank 2 4)) ∷
-    case (recoverOf (headingOf (rule 3 2 4) ++ take 18 overlong) 125) (recovery 11 (blank 2 4)) ∷
-    case (recoverOf (headingOf (rule 3 2 4) ++ take 19 overlong) 125) (refusal 125 4 2) ∷
+    case (recoverOf (behind 1 (print (Single Close))) 125) (recovery 11 (blank 2 4)) ∷
+    case (recoverOf (behind 3 (take 18 overlong)) 125) (recovery 11 (blank 2 4)) ∷ case (recoverOf (behind 3 (take 19 overlong)) 125) (refusal 125 4 2) ∷
     case (recoverOf (paperLog 2 ++ replicate 20 120) 125) (refusal 125 4 15) ∷
-    case (recoverOf (paperLog 3 ++ take 2 (paperLog 3)) 125) (refusal 125 4 15) ∷
+    case (recoverOf (paperLog 4 ++ take 2 (paperLog 4)) 125) (refusal 125 4 15) ∷
+    -- a line of 21 bytes, complete and as a tail: it waits and is dropped under edition 4, and is 4 under edition 3
+    case (recoverOf (behind 4 (longest-line ++ (10 ∷ []))) 125) (recovery 11 (blank 2 4)) ∷ case (recoverOf (behind 4 longest-line) 125) (recovery 11 (blank 2 4)) ∷
+    case (recoverOf (behind 3 (longest-line ++ (10 ∷ []))) 125) (refusal 125 4 2) ∷ case (recoverOf (behind 3 longest-line) 125) (refusal 125 4 2) ∷
+    -- a heading of 21 bytes is 5 behind one of edition 4 and 4 behind one of edition 2; as the first line it is 3 where its own edition is 1, and where that is 4 it
+    -- is 2, with a byte more 3
+    case (recoverOf (behind 4 (wide 1 123)) 125) (refusal 125 5 2) ∷ case (recoverOf (behind 2 (wide 1 123)) 125) (refusal 125 4 2) ∷
+    case (recoverOf (wide 1 123) 125) (refusal 125 3 1) ∷ case (recoverOf (wide 4 123) 125) (refusal 125 2 1) ∷ case (recoverOf (wide 4 1234) 125) (refusal 125 3 1) ∷
+    -- 65 slots are 2 under edition 3 and pass under edition 4, which has 128; 129 are 2
+    case ((recoverOf (headingOf (rule 3 1 65)) (size 1 65)) .verdict) (refuse 2 1) ∷ case ((recoverOf (headingOf (rule 4 1 65)) (size 1 65)) .verdict) Accepted ∷
+    case ((recoverOf (headingOf (rule 4 1 128)) (size 1 128)) .verdict) Accepted ∷ case ((recoverOf (headingOf (rule 4 1 129)) (size 1 129)) .verdict) (refuse 2 1) ∷
     -- and the byte of each: none with 5; the digit of an edition that there is not; the digit for which there is no room; other text at once; the byte that only a
     -- heading has there
-    case (byteOf (headings 3) (refuse 5 2)) 0 ∷ case (byteOf (headings 4) (refuse 4 2)) 5 ∷ case (byteOf (headingOf (rule 4 2 4)) (refuse 3 1)) 5 ∷
-    case (byteOf (headingOf (rule 3 2 4) ++ take 19 overlong) (refuse 4 2)) 18 ∷ case (byteOf (paperLog 2 ++ replicate 20 120) (refuse 4 15)) 0 ∷
-    case (byteOf (paperLog 3 ++ take 2 (paperLog 3)) (refuse 4 15)) 1 ∷
+    case (byteOf (headings 4) (refuse 5 2)) 0 ∷ case (byteOf (headings 5) (refuse 4 2)) 5 ∷ case (byteOf (headingOf (rule 5 2 4)) (refuse 3 1)) 5 ∷
+    case (byteOf (behind 3 (take 19 overlong)) (refuse 4 2)) 18 ∷ case (byteOf (paperLog 2 ++ replicate 20 120) (refuse 4 15)) 0 ∷
+    case (byteOf (paperLog 4 ++ take 2 (paperLog 4)) (refuse 4 15)) 1 ∷
+    -- of a line and a heading that are too long, the first byte for which there is no room
+    case (byteOf (behind 3 (longest-line ++ (10 ∷ []))) (refuse 4 2)) 20 ∷ case (byteOf (behind 3 longest-line) (refuse 4 2)) 20 ∷
+    case (byteOf (behind 2 (wide 1 123)) (refuse 4 2)) 20 ∷ case (byteOf (wide 1 123) (refuse 3 1)) 20 ∷ case (byteOf (wide 4 1234) (refuse 3 1)) 21 ∷
     -- the paper's log cut at 10 bytes is a heading without its end: all of it; with a byte altered it is that one
     case (byteOf (take 10 (paperLog 1)) (refuse 3 1)) 10 ∷ case (byteOf (take 10 (paperLog 2)) (refuse 3 1)) 10 ∷ case (byteOf (take 10 (paperLog 3)) (refuse 3 1)) 10 ∷
+    case (byteOf (take 10 (paperLog 4)) (refuse 3 1)) 10 ∷
     case (recoverOf altered 125) (refusal 125 4 5) ∷ case (byteOf altered (refuse 4 5)) 5 ∷
     [])
 unfolding reading printing logging imaging looping acting judging recovering sounding listing performing
 own-table =
-    (refl, (refl, (refl, (refl, (refl, (refl, (refl, (refl, (refl, (refl, (refl, (refl, (refl, (refl, (refl, (refl, (refl, (refl, (refl, (refl, (refl, (refl, (refl, (refl, (refl, (refl, (refl, (refl, (refl, (refl, (refl, (refl, (refl, (refl, (refl, (refl, (refl, tt)))))))))))))))))))))))))))))))))))))
+    (refl, (refl, (refl, (refl, (refl, (refl, (refl, (refl, (refl, (refl, (refl, (refl, (refl, (refl, (refl, (refl, (refl, (refl, (refl, (refl, (refl, (refl, (refl, (refl, (refl, (refl, (refl, (refl, (refl, (refl, (refl, (refl, (refl, (refl, (refl, (refl, (refl, (refl, (refl, (refl, (refl, (refl, (refl, (refl, (refl, (refl, (refl, (refl, (refl, (refl, (refl, (refl, (refl, (refl, (refl, (refl, (refl, (refl, tt))))))))))))))))))))))))))))))))))))))))))))))))))))))))))
 
 -- a session of a table goes on with calls that are accepted, and that retain what a handle holds
 abbrev accepted : Session → List Call → Bool

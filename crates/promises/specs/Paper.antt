@@ -58,7 +58,7 @@ threeHolding w =
     -- handles
     0 ∷ 0 ∷ 0 ∷ 0 ∷ 0 ∷ 0 ∷ 0 ∷ 0 ∷ 0 ∷ 0 ∷ 0 ∷ 0 ∷ 0 ∷ 0 ∷ 0 ∷ 0 ∷ 0 ∷ 0 ∷ 0 ∷ 0 ∷ 0 ∷ 0 ∷ 0 ∷ 0 ∷ 0 ∷ 0 ∷ 0 ∷ 0 ∷ 0 ∷ 0 ∷ 0 ∷ w ∷
     -- slot 0 of partition 0
-    1 ∷ 10 ∷ 65 ∷ 0 ∷ 0 ∷ 0 ∷ 0 ∷
+    1 ∷ 10 ∷ 129 ∷ 0 ∷ 0 ∷ 0 ∷ 0 ∷
     -- slot 1 of partition 0
     1 ∷ 30 ∷ 0 ∷ 0 ∷ 0 ∷ 0 ∷ 1 ∷
     -- slot 2 of partition 0

@@ -4,15 +4,15 @@ use mathlib.Core.List.{List}
 use lib.ListN.{length}
 use Rattle.kinds.specs.Answers.{refuse}
 use Rattle.model.specs.Acts.{Act}
-use Rattle.writer.specs.Record.{Rule}
+use Rattle.writer.specs.Record.{Rule, termsOf}
 use Rattle.journal.specs.Log.{logOf, replay, Kept}
 use Rattle.journal.specs.Recover.{Recovered, recovery, refusal}
 use Rattle.journal.specs.Refusals.{RefusesBy, Located}
 use Rattle.promises.specs.Rows.{Found, WrongSize, actRows}
 
--- refused with a number at a line: 2 as of format, an act by the list that its call has
+-- refused with a number at a line: 2 as of format, S by the heading's edition; an act by the list that its call has
 abbrev pub Refuses : ℕ → List ℕ → ℕ → ℕ → Type 0
-Refuses = RefusesBy WrongSize (λ P S y a k e. Found (actRows y a) (refuse k e))
+Refuses = RefusesBy (λ h len. WrongSize (termsOf h .slots) (h .P) (h .S) len) (λ P S y a k e. Found (actRows y a) (refuse k e))
 
 -- RECOVERY of a log into `len` words, and the byte: what it says is kept, to the end of its last record, and 0; or refused, all zeros, a kept length of 0, and
 -- where the fault is in the refused line

@@ -43,13 +43,13 @@ First z v rows s = (u : Verdict) × Found rows u × (s ≡ telled z v u)
 abbrev pub Unsound : Image → Type 0
 Unsound img = Sound img → ⊥
 
--- 2: P or S out of range, or length wrong
-pub data WrongSize (P S n : ℕ) : Type 0 where
-  no-partition : P ≡ 0 → WrongSize P S n
-  many-partitions : mostPartitions < P → WrongSize P S n
-  no-slot : S ≡ 0 → WrongSize P S n
-  many-slots : mostSlots < S → WrongSize P S n
-  wrong-length : n ≢ size P S → WrongSize P S n
+-- 2: P or S out of range, where S is at most m, or length wrong
+pub data WrongSize (m P S n : ℕ) : Type 0 where
+  no-partition : P ≡ 0 → WrongSize m P S n
+  many-partitions : mostPartitions < P → WrongSize m P S n
+  no-slot : S ≡ 0 → WrongSize m P S n
+  many-slots : m < S → WrongSize m P S n
+  wrong-length : n ≢ size P S → WrongSize m P S n
 
 -- 6: 0 or over 32 operations
 abbrev pub WrongCount : ℕ → Type 0
@@ -116,7 +116,7 @@ NoRoom bytes at log = length log < at + length bytes
 
 -- FORMAT 2, 17
 abbrev pub formatRows : Image → ℕ → ℕ → List ℕ → ℕ → List Row
-formatRows img P S log at = given 2 0 (WrongSize P S (lengthOf img)) ∷ given 17 0 (NoRoom (headingOf (newest P S)) at log) ∷ []
+formatRows img P S log at = given 2 0 (WrongSize mostSlots P S (lengthOf img)) ∷ given 17 0 (NoRoom (headingOf (newest P S)) at log) ∷ []
 
 -- one operation at position e: 7 for all its numbers, then 8 or 9, set's holder before its target
 abbrev pub operationRows : ℕ → ℕ → Image → ℕ → Operation → List Row

@@ -10,9 +10,9 @@ use lib.ListN.{getD, replicate}
 use borrow.Author.Tests.{lt-ltb, le-ltb, eq-eqb, ne-eqb, eqb-false, not-true}
 use Rattle.loops.specs.Loop.{both}
 use Rattle.loops.proofs.Tests.{same-test, both-true, both-so}
+use Rattle.kinds.specs.Names.{mostPlaces}
 use Rattle.model.specs.Image.{Image, Key, anchor, field, anchors, Holder, an-anchor, a-field}
 use Rattle.model.specs.Questions.{Bits, hasBit, collect, held, heldAt, anchorBits, reachedBits, ask}
-use Rattle.model.specs.Outlist.{mostPlaces}
 use Rattle.model.proofs.Alike.{Alike, Fits, alike-none, collect-alike, spread-alike}
 use Rattle.image.specs.Within.{Within}
 use Rattle.image.proofs.Within.{places}

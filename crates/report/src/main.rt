@@ -4,9 +4,11 @@
 // accepted log by the first line of standard output, `answer 0` (that line alone is not enough: it may begin a report that was written in part).
 // What is written is proved of `reporting::report`; here, that it ends and reads and writes within its spaces.
 use input::Input;
+use reporting::ROOM;
 use writer::Written;
 ghost use mathlib.Core.Path.{_≡_};
 ghost use lib.ListN.{length};
+ghost use Rattle.reporting.specs.Report.{room};
 
 // One byte more than reporting::MOST.
 fn log_space() -> [u8; 32769]
@@ -15,11 +17,10 @@ fn log_space() -> [u8; 32769]
     [0; 32769]
 }
 
-// reporting::ROOM bytes.
-fn text_space() -> [u8; 32768]
-    ensures { λ r. ⌜ 32768 ≡ length r ⌝ }
+fn text_space() -> [u8; ROOM]
+    ensures { λ r. ⌜ room ≡ length r ⌝ }
 {
-    [0; 32768]
+    [0; ROOM]
 }
 
 // Writes the report of a log to standard output.

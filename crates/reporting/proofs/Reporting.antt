@@ -9,6 +9,8 @@ use lib.Dec.{ltb, leb}
 use lib.ListN.{length, take, drop, length-append}
 use lib.Seq.{sets-eq, length-take-le}
 use borrow.Author.Tests.{lt-ltb, le-ltb, le-leb, lt-leb}
+use Rattle.kinds.specs.Editions.{longest}
+use Rattle.kinds.specs.Names.{mostPartitions, mostSlots}
 use Rattle.kinds.specs.declared.Refusal.{Refusal}
 use Rattle.kinds.specs.declared.Verdict.{Verdict}
 use Rattle.kinds.specs.declared.Verdict.the-variants.{Accepted, Refused}
@@ -17,8 +19,8 @@ use Rattle.journal.proofs.Locating.{byte-most}
 use Rattle.journal.specs.Recover.{Recovered, recoverOf, byteOf}
 use Rattle.journal.proofs.AnyBytes.{any-bytes, refused-so}
 use Rattle.journal.proofs.Salvaging.{kept-within, refused-within}
-use Rattle.lines.specs.Cursor.{after}
-use Rattle.lines.specs.Machine.{limit}
+use Rattle.lines.proofs.Firsts.{announced-longest}
+use Rattle.lines.specs.Cursor.{body, after, limitOf}
 use Rattle.lines.specs.Print.{Put, Bytes}
 use Rattle.writer.specs.declared.Written.{Written}
 use Rattle.writer.specs.declared.Written.the-variants.{Done, Full}
@@ -38,7 +40,7 @@ refused-length n l b =
     let y = row byteWord (b ∷ []) in
     omega (arith, row-length answerWord n, row-length lineWord l, row-length byteWord b, length-append (row answerWord (n ∷ [])) (x ++ y), length-append x y)
 
-kept-length : (P S k : ℕ) (y : Image) → P ≤ 16 → S ≤ 64 → length (keptText P S k y) ≤ room
+kept-length : (P S k : ℕ) (y : Image) → P ≤ mostPartitions → S ≤ mostSlots → length (keptText P S k y) ≤ room
 unfolding keptText
 kept-length P S k y hp hs =
     let m = places-most P S hp hs in
@@ -48,7 +50,7 @@ kept-length P S k y hp hs =
     let d = objects S y (P * S) in
     omega (arith, m .1, objects-length S (P * S) y hs (m .0), row-length answerWord 0, row-length keptWord k, row-length phaseWord (get y phase), length-append a (b ++ (c ++ d)), length-append b (c ++ d), length-append c d)
 
-shown-length : (P S : ℕ) (log : List ℕ) (r : Recovered) → P ≤ 16 → S ≤ 64 → length (shown P S log r) ≤ room
+shown-length : (P S : ℕ) (log : List ℕ) (r : Recovered) → P ≤ mostPartitions → S ≤ mostSlots → length (shown P S log r) ≤ room
 unfolding shown
 shown-length P S log r hp hs = by (r .verdict)
   where
@@ -62,7 +64,7 @@ recovered-length log =
     let a = asked-bounded log in
     shown-length (askedOf log .partitions) (askedOf log .slots) log (recoverOf log (lent log)) (a .few) (a .narrow)
 
--- NO REPORT has more than 32,768 bytes
+-- NO REPORT has more than 65,536 bytes
 pub report-length : (log : List ℕ) → length (reportOf log) ≤ room
 unfolding reportOf row
 report-length log = by (ltb mostBytes (length log))
@@ -117,8 +119,8 @@ module _ (log : List ℕ) (len : ℕ) (r : Recovery) (y : Image) (e : out r y �
     byte-answered : byteIn (NotKept n k) ≡ byteOf log (Refused n)
     byte-answered = ap byteIn (sym q) ∙ f ∙ ap (λ (z : Recovered). byteOf log (z .verdict)) (sym (answered (NotKept n k) q))
 
-    pub byte-small : k ≤ limit
-    byte-small = omega (arith, byte-answered, byte-most (n .number) (after (n .extra - 1) log))
+    pub byte-small : k ≤ longest
+    byte-small = omega (arith, byte-answered, byte-most (limitOf log) (n .number) (after (n .extra - 1) log), announced-longest (body log))
 
     pub refused-shown : (P S : ℕ) → refusedText (n .number) (n .extra) k ≡ shown P S log (recoverOf log len)
     unfolding shown
@@ -135,7 +137,7 @@ module _ (log : List ℕ) {a : Asked} (e : a ≡ askedOf log) (img : List ℕ) (
   pub words-lent : length (take (a .words) img) ≡ a .words
   words-lent = length-take-le (a .words) img words-fit
 
-  pub lent-whole : (a .partitions ≤ 16) × (a .slots ≤ 64) × (0 < length (take (a .words) img) → length (take (a .words) img) ≡ size (a .partitions) (a .slots))
+  pub lent-whole : (a .partitions ≤ mostPartitions) × (a .slots ≤ mostSlots) × (0 < length (take (a .words) img) → length (take (a .words) img) ≡ size (a .partitions) (a .slots))
   lent-whole = (bounds .few, bounds .narrow, λ h. words-lent ∙ bounds .whole (omega (arith, words-lent)))
 
   pub lent-report : length log ≤ mostBytes → shown (a .partitions) (a .slots) log (recoverOf log (length (take (a .words) img))) ≡ reportOf log

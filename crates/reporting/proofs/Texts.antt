@@ -12,38 +12,42 @@ use mathlib.Core.List.{List, [], _∷_, _++_}
 use lib.ListN.{length, set, take, getD, length-append}
 use lib.Seq.{take-suc, take-all}
 use borrow.Author.Tests.{eq-eqb, ne-eqb}
+use Rattle.kinds.specs.Names.{mostPartitions, mostSlots, mostPlaces}
 use Rattle.lines.proofs.Digits.{decimal-length, decimal-length-small, decimal-length-step}
 use Rattle.lines.specs.Decimal.{decimal}
 use Rattle.lines.specs.Print.{Put}
 use Rattle.model.specs.Acts.{used}
 use Rattle.model.specs.Image.{Image, state, payload, get}
 use Rattle.writer.proofs.Puts.{put-byte, put-then, put-length}
-use Rattle.reporting.specs.Report.{objectWord, spaced, row, objectAt, objects}
+use Rattle.reporting.specs.Report.{objectBytes, objectWord, spaced, row, objectAt, objects}
 
--- a number has at most ten digits, and one below 100 at most two
+-- a number has at most ten digits
 spaced-length : (n : ℕ) → length (spaced n) ≤ 11
 unfolding spaced
 spaced-length n = omega (arith, decimal-length n)
 
-small-length : (n : ℕ) → n < 100 → length (decimal n) ≤ 2
-small-length n h = by (decLt n 10)
+-- one below 100 has at most two, one below 1,000 at most three: each a digit more than its tenth
+digit-more : (n k : ℕ) → n < 1000 → 1 ≤ k → length (decimal (n / 10)) ≤ k → length (decimal n) ≤ k + 1
+digit-more n k h some tenth = by (decLt n 10)
   where
-    by : Dec (n < 10) → length (decimal n) ≤ 2
+    by : Dec (n < 10) → length (decimal n) ≤ k + 1
     by (yes p) = omega (arith, decimal-length-small n p)
-    by (no p) = omega (arith, decimal-length-step n (omega arith) (omega arith), decimal-length-small (n / 10) (omega arith))
+    by (no p) = omega (arith, decimal-length-step n (omega arith) (omega arith))
 
-spaced-small : (n : ℕ) → n < 100 → length (spaced n) ≤ 3
-unfolding spaced
-spaced-small n h = omega (arith, small-length n h)
+two-digits : (n : ℕ) → n < 100 → length (decimal n) ≤ 2
+two-digits n h = digit-more n 1 (omega arith) (omega arith) (omega (arith, decimal-length-small (n / 10) (omega arith)))
+
+three-digits : (n : ℕ) → n < 1000 → length (decimal n) ≤ 3
+three-digits n h = digit-more n 2 h (omega arith) (two-digits (n / 10) (omega arith))
 
 pub row-length : (word : List ℕ) (n : ℕ) → length (row word (n ∷ [])) ≤ length word + 12
 unfolding row
 row-length word n =
     omega (arith, length-append word (spaced n ++ (10 ∷ [])), length-append (spaced n) (10 ∷ []), spaced-length n)
 
--- an object's line has at most 24 bytes
-object-length : (p s v : ℕ) → p < 100 → s < 100 → length (row objectWord (p ∷ s ∷ v ∷ [])) ≤ 24
-unfolding row
+-- an object's line: two digits of partition, three of slot
+object-length : (p s v : ℕ) → p < 100 → s < 1000 → length (row objectWord (p ∷ s ∷ v ∷ [])) ≤ objectBytes
+unfolding row spaced
 object-length p s v hp hs =
     let e = spaced v ++ (10 ∷ []) in
     omega (
@@ -52,39 +56,39 @@ object-length p s v hp hs =
       length-append (spaced p) (spaced s ++ e),
       length-append (spaced s) e,
       length-append (spaced v) (10 ∷ []),
-      spaced-small p hp,
-      spaced-small s hs,
-      spaced-length v,
+      two-digits p hp,
+      three-digits s hs,
+      decimal-length v,
     )
 
--- the slot and the partition of a place have two digits
-module _ (S j : ℕ) (narrow : S ≤ 64) (in-heap : j < 16 * S) where
+-- the partition and the slot of a place are within the limits
+module _ (S j : ℕ) (narrow : S ≤ mostSlots) (in-heap : j < mostPartitions * S) where
   some-slot : 0 < S
   some-slot = omega arith
 
-  pub part-small : j / S < 16
+  pub part-small : j / S < mostPartitions
   part-small = div-lt-iff-lt-mul some-slot .1 in-heap
 
-  pub slot-small : j % S < 64
+  pub slot-small : j % S < mostSlots
   slot-small = let h : j % S < S = mod-lt j some-slot in omega arith
 
-  line-length : (v : ℕ) → length (row objectWord (j / S ∷ j % S ∷ v ∷ [])) ≤ 24
-  line-length v = let p : j / S < 16 = part-small in let s : j % S < 64 = slot-small in object-length (j / S) (j % S) v (omega arith) (omega arith)
+  line-length : (v : ℕ) → length (row objectWord (j / S ∷ j % S ∷ v ∷ [])) ≤ objectBytes
+  line-length v = let p : j / S < mostPartitions = part-small in let s : j % S < mostSlots = slot-small in object-length (j / S) (j % S) v (omega arith) (omega arith)
 
-  place-length : (y : Image) → length (objectAt S y j) ≤ 24
+  place-length : (y : Image) → length (objectAt S y j) ≤ objectBytes
   unfolding objectAt
   place-length y = by (used y j)
     where
-      by : (b : Bool) → length (cond b (row objectWord (j / S ∷ j % S ∷ get y (payload j) ∷ [])) []) ≤ 24
+      by : (b : Bool) → length (cond b (row objectWord (j / S ∷ j % S ∷ get y (payload j) ∷ [])) []) ≤ objectBytes
       by true = line-length (get y (payload j))
       by false = omega arith
 
-pub objects-length : (S n : ℕ) (y : Image) → S ≤ 64 → n ≤ 16 * S → length (objects S y n) ≤ 24 * n
+pub objects-length : (S n : ℕ) (y : Image) → S ≤ mostSlots → n ≤ mostPartitions * S → length (objects S y n) ≤ objectBytes * n
 unfolding objects
 objects-length S zero y h k = omega arith
 objects-length S (suc j) y h k =
-    let a : length (objects S y j) ≤ 24 * j = objects-length S j y h (omega arith) in
-    let b : length (objectAt S y j) ≤ 24 = place-length S j h (omega arith) y in
+    let a : length (objects S y j) ≤ objectBytes * j = objects-length S j y h (omega arith) in
+    let b : length (objectAt S y j) ≤ objectBytes = place-length S j h (omega arith) y in
     omega (arith, length-append (objects S y j) (objectAt S y j))
 
 -- a word's next byte
@@ -112,7 +116,7 @@ module _ (S : ℕ) (y : Image) (j : ℕ) {before after : List ℕ} {at next : �
   unfolding objects
   put-more q = rw add-one (put-then p q)
 
-  pub room-more : (n : ℕ) → j < n → S ≤ 64 → n ≤ 16 * S → at + 24 * n ≤ length before → next + 24 ≤ length after
+  pub room-more : (n : ℕ) → j < n → S ≤ mostSlots → n ≤ mostPartitions * S → at + objectBytes * n ≤ length before → next + objectBytes ≤ length after
   room-more n h k w r = omega (arith, put-length p, p .next, objects-length S j y k (omega arith))
 
 -- room for a line, and after it: how far on, and as many bytes as before
@@ -122,9 +126,9 @@ row-room word n at m h = omega (arith, row-length word n)
 pub row-put : {before after : List ℕ} {at r : ℕ} (word : List ℕ) (n : ℕ) → Put before after at (row word (n ∷ [])) r → (r ≤ at + length word + 12) × (length after ≡ length before)
 row-put word n p = (omega (arith, p .next, row-length word n), put-length p)
 
-pub object-room : (p s v at m : ℕ) → p < 100 → s < 100 → at + 24 ≤ m → at + length (row objectWord (p ∷ s ∷ v ∷ [])) ≤ m
+pub object-room : (p s v at m : ℕ) → p < 100 → s < 1000 → at + objectBytes ≤ m → at + length (row objectWord (p ∷ s ∷ v ∷ [])) ≤ m
 object-room p s v at m hp hs h = omega (arith, object-length p s v hp hs)
 
--- a heap has at most 16 partitions, and 1,024 places
-pub places-most : (p s : ℕ) → p ≤ 16 → s ≤ 64 → (p * s ≤ 16 * s) × (p * s ≤ 1024)
-places-most p s h k = let e : p * s ≤ 16 * s = mul-le-mul-right s h in (e, omega arith)
+-- a heap has at most 16 partitions, and 2,048 places
+pub places-most : (p s : ℕ) → p ≤ mostPartitions → s ≤ mostSlots → (p * s ≤ mostPartitions * s) × (p * s ≤ mostPlaces)
+places-most p s h k = let e : p * s ≤ mostPartitions * s = mul-le-mul-right s h in (e, omega arith)

@@ -1,9 +1,10 @@
 -- The report: its bytes, as a definition of the log.
 use Prim.Native.Nat.{ℕ, zero, suc, _+_, _*_, _/_, _%_}
-use mathlib.Core.Bool.{cond}
+use mathlib.Core.Bool.{Bool, cond}
 use mathlib.Core.List.{List, [], _∷_, _++_}
 use lib.Dec.{leb, ltb}
 use lib.ListN.{length}
+use Rattle.loops.specs.Loop.{both}
 use Rattle.kinds.specs.Names.{mostPartitions, mostSlots}
 use Rattle.kinds.specs.declared.Verdict.{Verdict}
 use Rattle.kinds.specs.declared.Verdict.the-variants.{Accepted, Refused}
@@ -11,13 +12,14 @@ use Rattle.lines.specs.declared.cursor.Step.{Step}
 use Rattle.lines.specs.declared.cursor.Step.the-variants.{Line as ALine, Tail}
 use Rattle.lines.specs.declared.line.Line.{Line}
 use Rattle.lines.specs.declared.line.Line.the-variants.{Heading, Operation, End, Single as SingleLine, Bad}
-use Rattle.lines.specs.Cursor.{stepOf}
+use Rattle.lines.specs.Cursor.{stepOf, limitOf}
 use Rattle.lines.specs.Decimal.{decimal}
 use Rattle.model.specs.Acts.{used}
 use Rattle.model.specs.Image.{Image, front, stride, payload, phase, get, size}
 use Rattle.model.specs.Judge.{inLimits}
 use Rattle.journal.specs.Recover.{Recovered, recoverOf, byteOf}
 use Rattle.writer.specs.declared.Written.the-variants.{Done, Full}
+use Rattle.writer.specs.Record.{Rule, rule, termsOf}
 use Rattle.writer.specs.Write.{Wrote, wrote, splice}
 use Rattle.reporting.specs.declared.asked.Asked.{Asked}
 
@@ -31,11 +33,11 @@ mostWords = front + stride * (mostPartitions * mostSlots)
 
 -- the bytes that a report is lent; none has more
 abbrev pub room : ℕ
-room = 32768
+room = 65536
 
--- the most bytes of an object's line: its word, two digits each of partition and slot, ten of payload, three spaces, the line end
+-- the most bytes of an object's line: its word, two digits of partition, three of slot, ten of payload, three spaces, the line end
 abbrev pub objectBytes : ℕ
-objectBytes = 24
+objectBytes = 25
 
 -- a n s w e r
 abbrev pub answerWord : List ℕ
@@ -104,17 +106,21 @@ told P S (Refused r) b k y = refusedText (r .number) (r .extra) b
 unfoldable pub shown : ℕ → ℕ → List ℕ → Recovered → List ℕ
 shown P S log r = told P S (r .verdict) (byteOf log (r .verdict)) (r .kept) (r .image)
 
--- what a first line asks for: P, S and the words of their image, where P and S are in range; else nothing
+-- what a first line asks for: P, S and the words of their image, where they are in its edition's range; else nothing
 abbrev pub nothingAsked : Asked
 nothingAsked = record { partitions = 0; slots = 0; words = 0 }
 
+-- S is at most what the edition decides, and P and S are within the limits
+abbrev pub inRange : Rule → Bool
+inRange h = both (leb (h .S) (termsOf h .slots)) (inLimits (h .P) (h .S))
+
 -- a heading's P and S
-unfoldable pub heapAsked : ℕ → ℕ → Asked
-heapAsked P S = cond (inLimits P S) (record { partitions = P; slots = S; words = size P S }) nothingAsked
+unfoldable pub heapAsked : Rule → Asked
+heapAsked h = cond (inRange h) (record { partitions = h .P; slots = h .S; words = size (h .P) (h .S) }) nothingAsked
 
 -- only a heading asks
 abbrev pub askedBy : Line → Asked
-askedBy (Heading e P S) = heapAsked P S
+askedBy (Heading e P S) = heapAsked (rule e P S)
 askedBy (Operation o) = nothingAsked
 askedBy (End k) = nothingAsked
 askedBy (SingleLine a) = nothingAsked
@@ -127,7 +133,7 @@ askedAt (Tail n) = nothingAsked
 
 -- a log asks for what its first line does
 unfoldable pub askedOf : List ℕ → Asked
-askedOf log = askedAt (stepOf log 0)
+askedOf log = askedAt (stepOf (limitOf log) log 0)
 
 -- the words that the report lends to recovery: as many as the heading asks for, so that it is refused with 2 for P or S alone
 abbrev pub lent : List ℕ → ℕ

@@ -27,7 +27,7 @@ ghost use Rattle.reporting.specs.Report.{mostBytes, mostWords, room, sho
 pub const MOST: usize = 32768;
 
 // The bytes that a report is lent.
-pub const ROOM: usize = 32768;
+pub const ROOM: usize = 65536;
 
 // Room for the largest image.
 fn image() -> [u32; WORDS]

@@ -16,7 +16,7 @@ use Rattle.lines.specs.declared.line.Line.the-variants.{Heading, Operation, End
 use Rattle.lines.specs.declared.machine.Scan.{Scan}
 use Rattle.lines.specs.Decimal.{digits, decimal}
 use Rattle.lines.specs.Words.{headingRows, otherRows, allRows, beginnings, prefixesOf, isIn, known, following, endText}
-use Rattle.lines.specs.Machine.{within, scan}
+use Rattle.lines.specs.Machine.{enough, within, scan}
 use Rattle.lines.specs.Line.{finish, lineOf}
 use Rattle.lines.proofs.Printed.{bytes-of}
 use Rattle.lines.specs.Print.{letters, text, field, printShape, print, Bytes, SmallLine}
@@ -100,7 +100,7 @@ number-not word h = rw (is-false (both (ltb (value 0 word) (2 ^ 32)) (same word 
 abbrev ending : List ℕ → List ℕ
 ending word = endText ++ (9 ∷ word)
 
-after-end : (word : List ℕ) → finish (afterEnd word) ≡ lineOf (ending word)
+after-end : (word : List ℕ) → finish (afterEnd word) ≡ lineOf enough (ending word)
 unfolding afterEnd lineOf scan within known following isIn prefixesOf allRows headingRows otherRows beginnings
 after-end word = refl
 
@@ -108,9 +108,9 @@ end-printed : (v : ℕ) → print (End v) ≡ ending (decimal v)
 unfolding print printShape text letters field
 end-printed v = ap ending (append-nil (decimal v))
 
-end-read : (v : ℕ) → v < 2 ^ 32 → lineOf (ending (decimal v)) ≡ End v
+end-read : (v : ℕ) → v < 2 ^ 32 → lineOf enough (ending (decimal v)) ≡ End v
 end-read v h =
-    ap lineOf (sym (end-printed v))
+    ap (lineOf enough) (sym (end-printed v))
     ∙ round-trip (End v) (h, tt) (rw (end-printed v) (omega (arith, decimal-length v)))
 
 -- what a line of the log says of a number
@@ -125,12 +125,12 @@ end-bytes : (word : List ℕ) → Bytes word → Bytes (ending word)
 end-bytes word h = (omega arith, (omega arith, (omega arith, (omega arith, h))))
 
 module _ (word : List ℕ) (h : Bytes word) where
-  other : (l : Line) → lineOf (ending word) ≡ l → ((v : ℕ) → l ≡ End v → ⊥) → numberOf word ≡ Not
-  other l e ne = number-not word (λ v small is. ne v (sym e ∙ ap (λ (xs : List ℕ). lineOf (ending xs)) is ∙ end-read v small))
+  other : (l : Line) → lineOf enough (ending word) ≡ l → ((v : ℕ) → l ≡ End v → ⊥) → numberOf word ≡ Not
+  other l e ne = number-not word (λ v small is. ne v (sym e ∙ ap (λ (xs : List ℕ). lineOf enough (ending xs)) is ∙ end-read v small))
 
-  by-line : (l : Line) → lineOf (ending word) ≡ l → numberOf word ≡ parsed l
+  by-line : (l : Line) → lineOf enough (ending word) ≡ l → numberOf word ≡ parsed l
   by-line (End v) e =
-      let back = print-back (ending word) (end-bytes word h) (λ b. absurd (let z : _≡_ {A = ℕ} 0 1 = cc in omega arith)) in
+      let back = print-back enough (ending word) (end-bytes word h) (λ b. absurd (let z : _≡_ {A = ℕ} 0 1 = cc in omega arith)) in
       let is : word ≡ decimal v = ap (drop 4) (back .0 ∙ ap print e ∙ end-printed v) in
       let small : SmallLine (End v) = subst SmallLine e (back .1) in
       ap numberOf is ∙ number-is v (small .0)

@@ -7,7 +7,7 @@ use Rattle.loops.specs.Loop.{both}
 use Rattle.lines.specs.declared.machine.Scan.{Scan}
 use Rattle.lines.specs.declared.machine.Scan.the-variants.{Start}
 use Rattle.lines.specs.Words.{allRows, code, endText}
-use Rattle.lines.specs.Machine.{limit, opened, scan}
+use Rattle.lines.specs.Machine.{enough, opened, scan}
 use Rattle.lines.specs.Decimal.{decimal}
 use Rattle.scripts.specs.declared.number.Parsed.{Parsed}
 use Rattle.scripts.specs.declared.number.Parsed.the-variants.{Is, Not}
@@ -30,7 +30,7 @@ numberOf word = cond (both (ltb (value 0 word) (2 ^ 32)) (same word (decimal (va
 
 -- the machine of the log's lines after `end`, a tab and a word
 unfoldable pub afterEnd : List ℕ → Scan
-afterEnd word = scan allRows (limit - 4) (Start (opened (code 0 endText) 0)) word
+afterEnd word = scan allRows (enough - 4) (Start (opened (code 0 endText) 0)) word
 
 -- a small letter
 abbrev pub isLetter : ℕ → Bool

@@ -8,17 +8,20 @@ use lines::words::END;
 ghost use mathlib.Core.Path.{_≡_};
 ghost use Rattle.scripts.specs.Numbers.{numberOf, keywordOf, afterEnd};
 
+// The most bytes of a word that is read as a number. A line has room for them behind `end` and a tab, and the largest number has ten.
+const ROOM: usize = 16;
+
 // What a word is.
 pub(crate) enum Parsed {
     Is(u32),
     Not,
 }
 
-// The machine of the log's lines after `end`, a tab and a word. It reads none of a word for which a line has no room.
+// The machine of the log's lines after `end`, a tab and a word. Of a word longer than `ROOM` it reads nothing.
 fn scanned(word: &[u8]) -> Scan
     ensures { λ s. ⌜ s ≡ afterEnd (now (word .entry)) ⌝ }
 {
-    let mut room = Line::LIMIT - 4;
+    let mut room = ROOM;
     if word.len() > room {
         return Scan::Dead;
     }

@@ -15,9 +15,8 @@ use Rattle.loops.specs.Loop.{both, bit, every, tally}
 use Rattle.loops.proofs.Tests.{both-false, both-self, is-false, clash, eq-or-ne}
 use Rattle.loops.proofs.Loops.{tally-le, every-so}
 use Rattle.loops.proofs.Turns.{tally-more}
-use Rattle.kinds.specs.Names.{mostPartitions}
+use Rattle.kinds.specs.Names.{mostPartitions, mostPlaces}
 use Rattle.model.specs.Image.{Image, state, field, get, placeOf, partOf, abroad}
-use Rattle.model.specs.Outlist.{mostPlaces}
 use Rattle.model.specs.Sound.{points, inCount, refOk, freeOk, slotOk, Free}
 use Rattle.model.proofs.Keys.{zeros}
 use Rattle.model.proofs.Places.{part-of}

@@ -5,9 +5,8 @@ use mathlib.Core.Bool.{Bool}
 use mathlib.Core.List.{List}
 use lib.ListN.{length, getD}
 use Rattle.loops.specs.Loop.{tally}
-use Rattle.kinds.specs.Names.{mostPartitions}
+use Rattle.kinds.specs.Names.{mostPartitions, mostPlaces}
 use Rattle.model.specs.Image.{Image, Sized, anchors, field, get}
-use Rattle.model.specs.Outlist.{mostPlaces}
 use Rattle.model.specs.Sound.{Limits, points, anchorOk, flagOk, flagDown, unmarkedAt}
 use Rattle.soundness.specs.declared.Check.{Check}
 use Rattle.soundness.specs.declared.Check.the-variants.{Anchor, Flag, Down, Unmarked}

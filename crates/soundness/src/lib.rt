@@ -10,7 +10,7 @@ ghost use mathlib.Core.Bool.{true, not};
 ghost use lib.Dec.{eqb};
 ghost use lib.ListN.{replicate};
 ghost use Rattle.loops.specs.Loop.{bit, every};
-ghost use Rattle.kinds.specs.Names.{mostSlots};
+ghost use Rattle.kinds.specs.Names.{mostSlots, mostPlaces};
 ghost use Rattle.model.specs.Image.{Key, flag, state, field, Has, get, partOf};
 ghost use Rattle.model.specs.Sound.{refOk, freeOk, slotOk, countOk, flagOk, flagDown, unmarkedAt, openOk, shutOk, soundAt, isSound};
 ghost use Rattle.soundness.specs.Checks.{Shaped, Tallied, reach, testAt};
@@ -67,7 +67,7 @@ fn field(
     q: usize,
     j: usize,
     k: usize,
-    counts: &mut [u32; 1024],
+    counts: &mut [u32; kinds::Name::LIMIT],
 ) -> bool
     requires { ⌜ Shaped p s (now img) ⌝ }
     requires { ⌜ (j < p * s) × (k < 4) × (partOf s j ≡ q) ⌝ }
@@ -96,7 +96,14 @@ fn field(
 }
 
 // The four fields of place j.
-fn fields(img: &[u32], p: usize, s: usize, q: usize, j: usize, counts: &mut [u32; 1024]) -> bool
+fn fields(
+    img: &[u32],
+    p: usize,
+    s: usize,
+    q: usize,
+    j: usize,
+    counts: &mut [u32; kinds::Name::LIMIT],
+) -> bool
     requires { ⌜ Shaped p s (now img) ⌝ }
     requires { ⌜ (j < p * s) × (partOf s j ≡ q) ⌝ }
     requires { ⌜ Tallied s (now img) (4 * j) (now counts) ⌝ }
@@ -132,7 +139,14 @@ fn free_ok(img: &[u32], p: usize, s: usize, j: usize) -> bool
 }
 
 // Place j, which is in partition q: free it is zeros but for its count, which `counted` compares; in use its state is known and its references name slots in use.
-fn slot(img: &[u32], p: usize, s: usize, q: usize, j: usize, counts: &mut [u32; 1024]) -> bool
+fn slot(
+    img: &[u32],
+    p: usize,
+    s: usize,
+    q: usize,
+    j: usize,
+    counts: &mut [u32; kinds::Name::LIMIT],
+) -> bool
     requires { ⌜ Shaped p s (now img) ⌝ }
     requires { ⌜ (j < p * s) × (partOf s j ≡ q) ⌝ }
     requires { ⌜ Tallied s (now img) (4 * j) (now counts) ⌝ }
@@ -150,7 +164,7 @@ fn slot(img: &[u32], p: usize, s: usize, q: usize, j: usize, counts: &mut [u32; 
 
 // The partition of place j, which is in q or the first after q.
 fn partition_at(q: usize, s: usize, j: usize) -> usize
-    requires { ⌜ (0 < s) × (s ≤ mostSlots) × (q * s ≤ j) × (j ≤ q * s + s) × (j < 1024) ⌝ }
+    requires { ⌜ (0 < s) × (s ≤ mostSlots) × (q * s ≤ j) × (j ≤ q * s + s) × (j < mostPlaces) ⌝ }
     ensures { λ r. ⌜ (r ≡ partOf s j) × (r * s ≤ j) × (j < r * s + s) ⌝ }
 {
     if j < q * s + s {
@@ -160,9 +174,9 @@ fn partition_at(q: usize, s: usize, j: usize) -> usize
 }
 
 // All places, one partition after the other: each slot is tested, and foreign references are tallied.
-fn slots(img: &[u32], p: usize, s: usize, counts: &mut [u32; 1024]) -> bool
+fn slots(img: &[u32], p: usize, s: usize, counts: &mut [u32; kinds::Name::LIMIT]) -> bool
     requires { ⌜ Shaped p s (now img) ⌝ }
-    requires { ⌜ now counts ≡ replicate 1024 0 ⌝ }
+    requires { ⌜ now counts ≡ replicate mostPlaces 0 ⌝ }
     ensures { λ r. ⌜ (r ≡ every (p * s) (slotOk p s (now (img .entry)))) × (r ≡ true → Tallied s (now (img .entry)) (4 * (p * s)) (now (counts .exit))) ⌝ }
 {
     let n = p * s;
@@ -180,7 +194,7 @@ fn slots(img: &[u32], p: usize, s: usize, counts: &mut [u32; 1024]) -> bool
 }
 
 // The counts of all places are what was tallied.
-fn counted(img: &[u32], p: usize, s: usize, counts: &[u32; 1024]) -> bool
+fn counted(img: &[u32], p: usize, s: usize, counts: &[u32; kinds::Name::LIMIT]) -> bool
     requires { ⌜ Shaped p s (now img) ⌝ }
     requires { ⌜ Tallied s (now img) (4 * (p * s)) (now counts) ⌝ }
     ensures { λ r. ⌜ r ≡ every (p * s) (countOk s (p * s) (now (img .entry))) ⌝ }

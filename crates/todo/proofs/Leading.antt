@@ -9,11 +9,11 @@ use lib.Dec.{eqb, ltb}
 use lib.ListN.{length, getD}
 use borrow.Author.Tests.{ltb-true, ltb-false, not-true}
 use Rattle.loops.proofs.Tests.{both-true}
+use Rattle.kinds.specs.Names.{mostPlaces}
 use Rattle.model.specs.Image.{Image, field, get}
 use Rattle.model.specs.Walk.{visit}
 use Rattle.model.specs.Acts.{refers, target}
 use Rattle.model.specs.Questions.{Bits, hasBit, addBit}
-use Rattle.model.specs.Outlist.{mostPlaces}
 use Rattle.model.proofs.Spreading.{Spreads}
 use Rattle.model.proofs.Bits.{Wide, bit-spreads, bit-commutes}
 use Rattle.model.proofs.Walking.{Left, Walked, walked-first, walked-next, walked-end, walked-is}

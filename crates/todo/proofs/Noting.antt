@@ -12,10 +12,10 @@ use borrow.Author.Tests.{lt-ltb, le-ltb, eq-eqb, ne-eqb}
 use Rattle.loops.specs.Loop.{each}
 use Rattle.loops.proofs.Tests.{is-false, both-false}
 use Rattle.loops.proofs.Turns.{each-none, each-more, each-done}
+use Rattle.kinds.specs.Names.{mostPlaces}
 use Rattle.model.specs.Image.{Image, anchor, field, anchors, get, placeOf}
 use Rattle.model.specs.Walk.{Todo}
 use Rattle.model.specs.Questions.{Bits, hasBit, addBit}
-use Rattle.model.specs.Outlist.{mostPlaces}
 use Rattle.model.proofs.Bits.{Wide, none-has, bit-same, bit-other, bit-had}
 use Rattle.model.proofs.Walking.{longer-none, longer-one, longer-then, todo-none, todo-most, todo-more}
 use Rattle.todo.specs.Notes.{noteWord, noteAnchors, noteFields, Noted, More}

@@ -6,12 +6,12 @@ use mathlib.Core.List.{List}
 use lib.Dec.{eqb, ltb}
 use lib.ListN.{length}
 use Rattle.loops.specs.Loop.{both, each}
+use Rattle.kinds.specs.Names.{mostPlaces}
 use Rattle.model.specs.Image.{Image, anchor, field, anchors, get, placeOf}
 use Rattle.model.specs.Spread.{spread}
 use Rattle.model.specs.Walk.{Todo, Longer}
 use Rattle.model.specs.Acts.{refers, target}
 use Rattle.model.specs.Questions.{Bits, hasBit, addBit}
-use Rattle.model.specs.Outlist.{mostPlaces}
 
 -- one of the n places from lo on
 abbrev pub among : ℕ → ℕ → ℕ → Bool

@@ -2,6 +2,7 @@
 // places in the order of their noting (`Noted`, specs/Notes.antt). `enter` notes a place, `note_anchors` what roots and handles name among these places,
 // and `spread` visits the list from its front, noting what the fields of each place name, until the list has no place left. That it comes to
 // the bits that the model's passes come to is `spread`'s contract, by the theory of walks (model/proofs/Walking.antt) in proofs/Leading.antt.
+use kinds::Name;
 ghost use mathlib.Core.Path.{_≡_};
 ghost use Prim.Native.Nat.{_+_, _*_, _≤_, _<_};
 ghost use Rattle.kinds.specs.Names.{mostSlots};
@@ -14,8 +15,8 @@ pub fn enter(
     lo: usize,
     n: usize,
     j: usize,
-    marks: &mut [u32; 1024],
-    list: &mut [u32; 1024],
+    marks: &mut [u32; Name::LIMIT],
+    list: &mut [u32; Name::LIMIT],
     m: usize,
 ) -> usize
     requires { ⌜ Noted lo n (now marks) (now list) m ⌝ }
@@ -36,8 +37,8 @@ fn note(
     lo: usize,
     n: usize,
     w: u32,
-    marks: &mut [u32; 1024],
-    list: &mut [u32; 1024],
+    marks: &mut [u32; Name::LIMIT],
+    list: &mut [u32; Name::LIMIT],
     m: usize,
 ) -> usize
     requires { ⌜ s ≤ mostSlots ⌝ }
@@ -64,8 +65,8 @@ pub fn note_anchors(
     s: usize,
     lo: usize,
     n: usize,
-    marks: &mut [u32; 1024],
-    list: &mut [u32; 1024],
+    marks: &mut [u32; Name::LIMIT],
+    list: &mut [u32; Name::LIMIT],
     m: usize,
 ) -> usize
     requires { ⌜ Within p s (now img) ⌝ }
@@ -90,8 +91,8 @@ fn visit(
     lo: usize,
     n: usize,
     j: usize,
-    marks: &mut [u32; 1024],
-    list: &mut [u32; 1024],
+    marks: &mut [u32; Name::LIMIT],
+    list: &mut [u32; Name::LIMIT],
     m: usize,
 ) -> usize
     requires { ⌜ Within p s (now img) ⌝ }
@@ -116,8 +117,8 @@ pub fn spread(
     s: usize,
     lo: usize,
     n: usize,
-    marks: &mut [u32; 1024],
-    list: &mut [u32; 1024],
+    marks: &mut [u32; Name::LIMIT],
+    list: &mut [u32; Name::LIMIT],
     m: usize,
 )
     requires { ⌜ Within p s (now img) ⌝ }

@@ -5,6 +5,7 @@ use kinds::Single;
 use kinds::Target;
 use lines::cursor::Cursor;
 use lines::cursor::Step;
+use lines::cursor::limit_of;
 use lines::line::Line;
 
 fn say(text: &[u8]) {
@@ -102,10 +103,11 @@ fn show(l: Line) {
 }
 
 fn walk(log: &[u8]) {
+    let limit = limit_of(log);
     let mut c = Cursor::new();
     loop {
         place(c.at);
-        match c.next(log) {
+        match c.next(log, limit) {
             Step::Line(l, next) => {
                 show(l);
                 c = next;

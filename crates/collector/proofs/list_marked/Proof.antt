@@ -6,6 +6,7 @@ use native.Mathlib.Nat.{le-antisymm}
 use native.Mathlib.Omega.{arith}
 use lib.ListN.{length, length-set}
 use borrow.Author.Tests.{eq-eqb, ne-eqb}
+use Rattle.kinds.specs.Names.{mostSlots, mostPlaces}
 use Rattle.model.specs.Acts.{marked}
 use Rattle.model.specs.Walk.{Todo}
 use Rattle.model.proofs.Places.{slot-in}
@@ -16,7 +17,7 @@ use Rattle.collector.proofs.list_marked.Statement.{statement}
 use Rattle.collector.proofs.list_marked.Tie as tie
 
 abbrev Inv-loop : tie.InvT-loop
-Inv-loop img p s t list₀ m₀ k₀ list m k = (k ≤ s) × (length list ≡ 64) × Todo marked (λ i. t * s + i) k img list m
+Inv-loop img p s t list₀ m₀ k₀ list m k = (k ≤ s) × (length list ≡ mostSlots) × Todo marked (λ i. t * s + i) k img list m
 
 abbrev μ-loop : tie.MeasureT-loop
 μ-loop img p s t list₀ m₀ k₀ list m k = s - k
@@ -28,11 +29,11 @@ loop-holds c = (search needs, c .before .pre .1 .1, todo-none marked _ 0 _ _ (om
 place-in : (c : tie.In-loop Inv-loop μ-loop) → c .before .before .before .args .t * c .before .before .before .args .s + c .before .loop .k < c .before .before .before .args .p * c .before .before .before .args .s
 place-in c = slot-in (c .before .before .before .args .p) (c .before .before .before .args .s) (c .before .before .before .pre .0 .limits .some-slot) (c .before .before .before .args .t) (c .before .loop .k) (c .before .before .before .pre .1 .0) (c .loop-test .taken)
 
-place-small : (c : tie.In-loop Inv-loop μ-loop) → c .before .before .before .args .t * c .before .before .before .args .s + c .before .loop .k < 1024
+place-small : (c : tie.In-loop Inv-loop μ-loop) → c .before .before .before .args .t * c .before .before .before .args .s + c .before .loop .k < mostPlaces
 place-small c = let h = c .before .before .before .pre .0 in omega (arith, place-in c, places h)
 
 -- no more are listed than looked at
-few : (c : tie.In-loop Inv-loop μ-loop) → c .before .loop .m < 64
+few : (c : tie.In-loop Inv-loop μ-loop) → c .before .loop .m < mostSlots
 few c = omega (arith, todo-most (c .before .loop .inv .2), c .loop-test .taken, c .before .before .before .pre .0 .limits .slots-most)
 
 mul-j : tie.Need-mul-j Inv-loop μ-loop

@@ -2,6 +2,7 @@
 use Prim.Native.Nat.{_*_, _<_}
 use mathlib.Core.Path.{_≡_, sym, ap, _∙_}
 use native.Mathlib.Omega.{arith}
+use Rattle.kinds.specs.Names.{mostSlots}
 use Rattle.model.specs.Image.{partOf}
 use Rattle.model.proofs.Walking.{longer-none, longer-one}
 use Rattle.image.proofs.Within.{places, has-word}
@@ -64,7 +65,7 @@ returns-3 : tie.Need-returns-3
 returns-3 c = (c .before .before .before .before .mark-word .ensures, noted-far (fresh (c .before)) (λ q. omega (arith, part-is (c .before), c .if3 .taken)), longer-none _ _)
 
 -- one of the partition has room in the list
-room : (c : tie.Else3) → start (c .before) .args .m < 64
+room : (c : tie.Else3) → start (c .before) .args .m < mostSlots
 room c = noted-room (fresh (c .before)) (omega (arith, part-is (c .before), c .if3 .left))
 
 cast-list : tie.Need-cast-list

@@ -1,8 +1,8 @@
 -- `collector::open` meets its contract. Assumes nothing. What its calls come to, one after the other, is `opens`.
+use Rattle.kinds.specs.Names.{mostPlaces}
 use Rattle.collector.proofs.Bounds.{has-after, with-put}
 use Rattle.collector.proofs.Sweeps.{unmarked-few, opens}
 use Rattle.model.specs.Image.{phase, count, allowance}
-use Rattle.model.specs.Outlist.{mostPlaces}
 use Rattle.image.proofs.Within.{has-word, places}
 use native.Mathlib.Omega.{arith}
 use Prim.Native.Nat.{_≤_}

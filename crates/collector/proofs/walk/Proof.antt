@@ -1,6 +1,7 @@
 -- `collector::walk` meets its contract. Assumes nothing. Of the list's objects the first `at` are visited (`Walking`); it is never longer than a partition.
 use Prim.Native.Nat.{_-_, _<_}
 use native.Mathlib.Omega.{arith}
+use Rattle.kinds.specs.Names.{mostSlots}
 use Rattle.model.proofs.Walking.{todo-most}
 use Rattle.collector.proofs.Bounds.{long-same}
 use Rattle.collector.proofs.Walking.{Walking, walking-first, walking-within, next-in, walking-next, walking-end}
@@ -12,7 +13,7 @@ abbrev Inv-loop : tie.InvT-loop
 Inv-loop img₀ p s t list₀ m₀ at₀ img list m at = Walking p s t img₀ img list m at
 
 abbrev μ-loop : tie.MeasureT-loop
-μ-loop img₀ p s t list₀ m₀ at₀ img list m at = 64 - at
+μ-loop img₀ p s t list₀ m₀ at₀ img list m at = mostSlots - at
 
 list-marked-requires : tie.Need-list-marked-requires Inv-loop μ-loop
 list-marked-requires c κs = search needs
@@ -21,7 +22,7 @@ loop-holds : tie.Need-loop-holds Inv-loop μ-loop
 loop-holds c = walking-first (c .before .before .before .before .pre .0) (c .before .before .before .before .pre .1) (c .list-marked .ensures)
 
 -- the list has no more than a partition's slots
-next-few : (c : tie.In-loop Inv-loop μ-loop) → c .before .loop .at < 64
+next-few : (c : tie.In-loop Inv-loop μ-loop) → c .before .loop .at < mostSlots
 next-few c = let g = c .before .loop .inv in omega (arith, c .loop-test .taken, todo-most (g .listed .todo), g .begun .limits .slots-most)
 
 mul-wide : tie.Need-mul-wide Inv-loop μ-loop

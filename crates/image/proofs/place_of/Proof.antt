@@ -1,6 +1,7 @@
 -- `image::place_of` meets its contract. Assumes nothing.
 use Prim.Native.Nat.{_-_, _/_, _^_}
 use mathlib.Core.Path.{refl}
+use Rattle.kinds.specs.Names.{radix}
 use Rattle.model.specs.Image.{placeOf}
 use native.Mathlib.Omega.{arith}
 use Rattle.image.proofs.Within.{product, word-none}
@@ -18,13 +19,13 @@ cast-result : tie.Need-cast-result
 cast-result c = search needs
 
 mul-result : tie.Need-mul-result
-mul-result c = omega (arith, product (2 ^ 26) ((c .before .args .w - 1) / 64) (c .before .args .s) (omega arith) (c .before .pre))
+mul-result c = omega (arith, product (2 ^ 32 / radix) ((c .before .args .w - 1) / radix) (c .before .args .s) (omega arith) (c .before .pre))
 
 cast-result-2 : tie.Need-cast-result-2
 cast-result-2 c = search needs
 
 add-result : tie.Need-add-result
-add-result c = omega (arith, product (2 ^ 26) ((c .before .args .w - 1) / 64) (c .before .args .s) (omega arith) (c .before .pre))
+add-result c = omega (arith, product (2 ^ 32 / radix) ((c .before .args .w - 1) / radix) (c .before .args .s) (omega arith) (c .before .pre))
 
 returns-2 : tie.Need-returns-2
 unfolding placeOf

@@ -2,8 +2,8 @@
 use Prim.Native.Nat.{_*_, _≤_}
 use mathlib.Core.Path.{refl}
 use native.Mathlib.Omega.{arith}
+use Rattle.kinds.specs.Names.{mostPlaces}
 use Rattle.model.specs.Image.{size}
-use Rattle.model.specs.Outlist.{mostPlaces}
 use Rattle.image.proofs.Within.{most-places}
 use Rattle.image.proofs.size.Statement.{statement}
 use Rattle.image.proofs.size.Tie as tie

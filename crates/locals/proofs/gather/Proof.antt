@@ -1,6 +1,7 @@
 -- `locals::gather` meets its contract. Assumes nothing. After i turns the names of the first i places that are marked are put down (`Listed`).
 use Rattle.model.proofs.Naming.{Listed, listed-none, listed-more, listed-room}
-use Rattle.model.specs.Outlist.{mostPlaces, nameOne, listNames}
+use Rattle.model.specs.Outlist.{nameOne, listNames}
+use Rattle.kinds.specs.Names.{mostPlaces}
 use Rattle.kinds.specs.Answers.{noNames}
 use Rattle.locals.specs.Outlist.{nameState}
 use Rattle.loops.proofs.Turns.{each-none, each-more, each-done}

@@ -1,5 +1,6 @@
 -- `locals::mark_outs` meets its contract. Assumes nothing. After f turns what the first f fields name outside t is marked.
-use Rattle.model.specs.Outlist.{mostPlaces, outOne, outBits}
+use Rattle.kinds.specs.Names.{mostPlaces}
+use Rattle.model.specs.Outlist.{outOne, outBits}
 use Rattle.model.specs.Questions.{collect}
 use Rattle.loops.proofs.Turns.{each-none, each-more, each-done}
 use Rattle.loops.specs.Loop.{each}
@@ -11,7 +12,7 @@ use Rattle.locals.proofs.mark_outs.Statement.{statement}
 use Rattle.locals.proofs.mark_outs.Tie as tie
 
 abbrev Inv-loop : tie.InvT-loop
-Inv-loop img p s t bits₀ n f₀ bits f = (f ≤ 4 * s) × (bits ≡ each f (outOne s t img) (replicate 1024 0)) × (length bits ≡ mostPlaces)
+Inv-loop img p s t bits₀ n f₀ bits f = (f ≤ 4 * s) × (bits ≡ each f (outOne s t img) (replicate mostPlaces 0)) × (length bits ≡ mostPlaces)
 
 abbrev μ-loop : tie.MeasureT-loop
 μ-loop img p s t bits₀ n f₀ bits f = 4 * s - f
@@ -20,7 +21,7 @@ mul-n : tie.Need-mul-n Inv-loop μ-loop
 mul-n c = omega (arith, c .before .pre .0 .limits .slots-most)
 
 loop-holds : tie.Need-loop-holds Inv-loop μ-loop
-loop-holds c = (omega arith, c .before .pre .1 .1 ∙ each-none _ _, rw (c .before .pre .1 .1) (length-replicate {A = ℕ} 1024 0))
+loop-holds c = (omega arith, c .before .pre .1 .1 ∙ each-none _ _, rw (c .before .pre .1 .1) (length-replicate {A = ℕ} mostPlaces 0))
 
 mark-out-requires : tie.Need-mark-out-requires Inv-loop μ-loop
 mark-out-requires c κs =

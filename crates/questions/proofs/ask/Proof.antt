@@ -1,9 +1,9 @@
 -- `questions::ask` meets its contract. Assumes nothing. What is noted from the roots on are the places of the model's answer (`answered`).
+use Rattle.kinds.specs.Names.{mostPlaces}
 use Rattle.questions.proofs.Answering.{answer-so, answer-not}
 use Rattle.image.proofs.Within.{places}
 use Rattle.todo.proofs.Noting.{noted-none}
 use Rattle.model.specs.Questions.{ask}
-use Rattle.model.specs.Outlist.{mostPlaces}
 use Prim.Native.Nat.{_<_}
 use native.Mathlib.Omega.{arith}
 use mathlib.Core.Path.{_∙_, ap}

@@ -1,11 +1,11 @@
 -- `soundness::counted` meets its contract. Assumes nothing.
 -- The loop has found the counts of the first j places right: each is what was tallied (count-is).
+use Rattle.kinds.specs.Names.{mostPlaces}
 use Rattle.soundness.proofs.Tallying.{places, count-is}
 use Rattle.loops.proofs.Turns.{every-none, every-more, every-fails, every-done}
 use Rattle.loops.specs.Loop.{every}
 use Rattle.model.specs.Image.{inlist}
 use Rattle.model.proofs.Keys.{has}
-use Rattle.model.specs.Outlist.{mostPlaces}
 use Rattle.model.specs.Sound.{inCount, countOk}
 use lib.ListN.{getD}
 use mathlib.Core.Bool.{true}

@@ -3,8 +3,8 @@ use Prim.Native.Nat.{_*_, _<_}
 use mathlib.Core.Path.{refl, sym, _∙_}
 use native.Mathlib.Omega.{arith}
 use borrow.Author.Tests.{ne-eqb}
+use Rattle.kinds.specs.Names.{mostPlaces}
 use Rattle.model.specs.Image.{state, field, placeOf}
-use Rattle.model.specs.Outlist.{mostPlaces}
 use Rattle.model.proofs.Keys.{has}
 use Rattle.model.proofs.Soundness.{ref-nothing, ref-not}
 use Rattle.image.proofs.Within.{word-in, part-word}

@@ -1,4 +1,5 @@
 -- `todo::spread` meets its contract. Assumes nothing. Of the list's places the first `at` are visited: `Spreading`, the theory of walks at work.
+use Rattle.kinds.specs.Names.{mostPlaces}
 use Rattle.todo.proofs.Noting.{noted-most}
 use Rattle.todo.proofs.Leading.{Spreading, spreading-first, next-in, spreading-next, spreading-done}
 use Prim.Native.Nat.{_-_}
@@ -11,7 +12,7 @@ abbrev Inv-loop : tie.InvT-loop
 Inv-loop img p s lo n marks₀ list₀ m end₀ at₀ marks list end at = Spreading s lo n img marks₀ marks list end at
 
 abbrev μ-loop : tie.MeasureT-loop
-μ-loop img p s lo n marks₀ list₀ m end₀ at₀ marks list end at = 1024 - at
+μ-loop img p s lo n marks₀ list₀ m end₀ at₀ marks list end at = mostPlaces - at
 
 -- where a turn has read its place
 abbrev turn : tie.After-visit-arg2 Inv-loop μ-loop → tie.After-wide Inv-loop μ-loop

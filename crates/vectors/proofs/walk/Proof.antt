@@ -9,10 +9,13 @@ use Rattle.vectors.proofs.walk.Statement.{statement}
 use Rattle.vectors.proofs.walk.Tie as tie
 
 abbrev Inv-loop : tie.InvT-loop
-Inv-loop log c₀ t6 t7 c = Unit {0}
+Inv-loop log limit c₀ t6 t7 c = Unit {0}
 
 abbrev μ-loop : tie.MeasureT-loop
-μ-loop log c₀ t6 t7 c = length log - c .at
+μ-loop log limit c₀ t6 t7 c = length log - c .at
+
+limit-of-requires : tie.Need-limit-of-requires Inv-loop μ-loop
+limit-of-requires c κs = search needs
 
 new-requires : tie.Need-new-requires Inv-loop μ-loop
 new-requires c κs = search needs
@@ -33,7 +36,7 @@ show-requires : tie.Need-show-requires Inv-loop μ-loop
 show-requires c κs = search needs
 
 loop-less : tie.Need-loop-less Inv-loop μ-loop
-loop-less c = let e = step-on _ _ _ _ (sym (c .before .before .l .given .1) ∙ c .before .before .before .before .next .ensures) in
+loop-less c = let e = step-on _ _ _ _ _ (sym (c .before .before .l .given .1) ∙ c .before .before .before .before .next .ensures) in
     omega arith
 
 loop-again : tie.Need-loop-again Inv-loop μ-loop
@@ -66,6 +69,7 @@ walk-spec =
     (tie.spec
     Inv-loop
     μ-loop
+    limit-of-requires
     new-requires
     loop-holds
     place-requires

@@ -1,5 +1,6 @@
 -- `reporting::rows::put_place` meets its contract. Assumes nothing.
 use Rattle.reporting.proofs.Texts.{part-small, slot-small, object-room, place-free, place-used}
+use Rattle.kinds.specs.Names.{mostPartitions, mostSlots}
 use Rattle.writer.proofs.Puts.{put-none}
 use Prim.Native.Nat.{_/_, _%_, _<_}
 use mathlib.Core.Path.{sym, _∙_}
@@ -9,7 +10,7 @@ use Rattle.reporting.proofs.rows.put_place.Statement.{statement}
 use Rattle.reporting.proofs.rows.put_place.Tie as tie
 
 -- the place's partition and slot
-small : (c : tie.Else1) → (c .before .before .before .before .args .j / c .before .before .before .before .args .s < 16) × (c .before .before .before .before .args .j % c .before .before .before .before .args .s < 64)
+small : (c : tie.Else1) → (c .before .before .before .before .args .j / c .before .before .before .before .args .s < mostPartitions) × (c .before .before .before .before .args .j % c .before .before .before .before .args .s < mostSlots)
 small c =
     let a = c .before .before .before .before .args in
     (part-small (a .s) (a .j) (omega arith) (omega arith), slot-small (a .s) (a .j) (omega arith) (omega arith))

@@ -19,9 +19,6 @@ Inv-loop word room₀ s₀ i₀ room s i = (i ≤ length word) × (length word -
 abbrev μ-loop : tie.MeasureT-loop
 μ-loop word room₀ s₀ i₀ room s i = length word - i
 
-sub-room : tie.Need-sub-room Inv-loop μ-loop
-sub-room c = search needs
-
 returns : tie.Need-returns Inv-loop μ-loop
 unfolding afterEnd
 returns c = sym (scan-over allRows (c .before .before .args .word .now) 16 (Start (opened (code 0 endText) 0)) (omega arith))
@@ -30,8 +27,8 @@ loop-holds : tie.Need-loop-holds Inv-loop μ-loop
 unfolding afterEnd
 loop-holds c = (omega arith, omega arith, rw (take-length (c .before .before .args .word .now)))
 
-sub-room-2 : tie.Need-sub-room-2 Inv-loop μ-loop
-sub-room-2 c = search needs
+sub-room : tie.Need-sub-room Inv-loop μ-loop
+sub-room c = search needs
 
 shared-slice-read-advance : tie.Need-shared-slice-read-advance Inv-loop μ-loop
 shared-slice-read-advance c = search needs
@@ -67,10 +64,9 @@ scanned-spec =
     (tie.spec
     Inv-loop
     μ-loop
-    sub-room
     returns
     loop-holds
-    sub-room-2
+    sub-room
     shared-slice-read-advance
     advance-requires
     within-requires

@@ -1,14 +1,15 @@
 -- `shell::answer::names` meets its contract. Assumes nothing.
 use Prim.Native.Nat.{_-_, _≤_}
+use Rattle.kinds.specs.Names.{mostNames}
 use borrow.Author.Needs.{needs}
 use Rattle.shell.proofs.answer.names.Statement.{statement}
 use Rattle.shell.proofs.answer.names.Tie as tie
 
 abbrev Inv-loop : tie.InvT-loop
-Inv-loop out₀ at words n₀ i₀ out n i = i ≤ 256
+Inv-loop out₀ at words n₀ i₀ out n i = i ≤ mostNames
 
 abbrev μ-loop : tie.MeasureT-loop
-μ-loop out₀ at words n₀ i₀ out n i = 256 - i
+μ-loop out₀ at words n₀ i₀ out n i = mostNames - i
 
 slice-aggregate-valued : tie.Need-slice-aggregate-valued Inv-loop μ-loop
 slice-aggregate-valued c = search needs
