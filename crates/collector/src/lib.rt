@@ -13,7 +13,7 @@ ghost use Rattle.collector.specs.Sweeps.{swept, Reaches, closed_of};
 ghost use Rattle.collector.specs.Lists.{Listed, mark_fields};
 
 // What a sweep does at each number: all partitions become not clean, what roots and handles name is marked, or places are settled.
-#[derive(Drop)]
+#[derive(Clone, Copy)]
 enum Sweep {
     Flags,
     Anchors,
@@ -21,7 +21,7 @@ enum Sweep {
 }
 
 // What close answers: the traces counted, and how many objects it freed.
-#[derive(Drop)]
+#[derive(Clone, Copy)]
 pub struct Closed {
     pub count: u32,
     pub freed: usize,

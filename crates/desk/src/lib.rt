@@ -16,7 +16,7 @@ use recovery::Recovery;
 use scripts::order::{Deed, Look, Order};
 
 // How many words of image, bytes of log and words for `why` are lent, and how many operations wait.
-#[derive(Drop)]
+#[derive(Clone, Copy)]
 pub struct Desk {
     pub image: usize,
     pub log: usize,
@@ -25,7 +25,7 @@ pub struct Desk {
 }
 
 // What a line is answered.
-#[derive(Drop)]
+#[derive(Clone, Copy)]
 pub enum Response {
     // No line is written.
     Nothing,
@@ -43,7 +43,7 @@ pub enum Response {
 }
 
 // The desk after a line, and the answer.
-#[derive(Drop)]
+#[derive(Clone, Copy)]
 pub struct Turn {
     pub desk: Desk,
     pub said: Response,

@@ -55,6 +55,26 @@ plain_apart n (payload i) (anchor r) f (an_anchor l) = refl
 plain_apart n (payload i) (field j k) f (a_field l m) = refl
 plain_apart n (inlist j) μ f h = absurd f
 plain_apart n (field j k) μ f h = absurd f
+plain_apart n (head h) (head _) f x5 = elim x5 [ ]
+plain_apart n (head h) (flag _) f x6 = elim x6 [ ]
+plain_apart n (head h) (state _) f x7 = elim x7 [ ]
+plain_apart n (head h) (payload _) f x8 = elim x8 [ ]
+plain_apart n (head h) (inlist _) f x9 = elim x9 [ ]
+plain_apart n (flag p) (head _) f h = elim h [ ]
+plain_apart n (flag p) (flag _) f h = elim h [ ]
+plain_apart n (flag p) (state _) f h = elim h [ ]
+plain_apart n (flag p) (payload _) f h = elim h [ ]
+plain_apart n (flag p) (inlist _) f h = elim h [ ]
+plain_apart n (state i) (head _) f h = elim h [ ]
+plain_apart n (state i) (flag _) f h = elim h [ ]
+plain_apart n (state i) (state _) f h = elim h [ ]
+plain_apart n (state i) (payload _) f h = elim h [ ]
+plain_apart n (state i) (inlist _) f h = elim h [ ]
+plain_apart n (payload i) (head _) f h = elim h [ ]
+plain_apart n (payload i) (flag _) f h = elim h [ ]
+plain_apart n (payload i) (state _) f h = elim h [ ]
+plain_apart n (payload i) (payload _) f h = elim h [ ]
+plain_apart n (payload i) (inlist _) f h = elim h [ ]
 
 -- nor a count
 plain_count : (κ : Key) → Plain κ → (i : ℕ) → same κ (inlist i) ≡ false

@@ -7,7 +7,7 @@ ghost use Rattle.libc.specs.Io.{Moved};
 ghost use Rattle.input.specs.Input.{after_of, outcome, Stands, Filled};
 
 // What stands in the buffer after a read.
-#[derive(Drop)]
+#[derive(Clone, Copy)]
 pub enum Got {
     // So many bytes, and there may be more.
     More(usize),
@@ -17,7 +17,7 @@ pub enum Got {
 }
 
 // What reading to the end, or until the buffer is full, left.
-#[derive(Drop)]
+#[derive(Clone, Copy)]
 pub enum Input {
     Whole(usize),
     Failed,

@@ -7,7 +7,7 @@ ghost use Rattle.kinds.specs.Answers.{blank_record, no_names, refuse};
 ghost use Rattle.kinds.specs.Editions.{decides, terms};
 
 // A partition's number.
-#[derive(Drop)]
+#[derive(Clone, Copy)]
 pub struct Partition(pub u32);
 
 impl Partition {
@@ -15,7 +15,7 @@ impl Partition {
 }
 
 // A slot's number within its partition.
-#[derive(Drop)]
+#[derive(Clone, Copy)]
 pub struct Slot(pub u32);
 
 impl Slot {
@@ -23,7 +23,7 @@ impl Slot {
 }
 
 // The name of an object: one partition and one slot.
-#[derive(Drop)]
+#[derive(Clone, Copy)]
 pub struct Name {
     pub partition: Partition,
     pub slot: Slot,
@@ -45,7 +45,7 @@ pub fn named(p: u32, s: u32) -> Name
 }
 
 // A session handle's number.
-#[derive(Drop)]
+#[derive(Clone, Copy)]
 pub struct Handle(pub u32);
 
 impl Handle {
@@ -53,14 +53,14 @@ impl Handle {
 }
 
 // What a chain of references starts from: a root or a session handle, by its number.
-#[derive(Drop)]
+#[derive(Clone, Copy)]
 pub enum Start {
     Root(u32),
     Handle(Handle),
 }
 
 // What a field, a root or a handle holds: nothing, or an object.
-#[derive(Drop)]
+#[derive(Clone, Copy)]
 pub enum Target {
     Nothing,
     Object(Name),
@@ -75,7 +75,7 @@ impl Target {
 }
 
 // One field of an object.
-#[derive(Drop)]
+#[derive(Clone, Copy)]
 pub struct Field {
     pub target: Target,
 }
@@ -86,7 +86,7 @@ impl Field {
 }
 
 // An object as it is read: its payload beside its four fields.
-#[derive(Drop)]
+#[derive(Clone, Copy)]
 pub struct Record {
     pub payload: u32,
     pub fields: [Field; 4],
@@ -94,7 +94,7 @@ pub struct Record {
 
 // A partition's outlist: how many names of other partitions' objects its objects hold, and these names as reference words in order,
 // unused ones 0.
-#[derive(Drop)]
+#[derive(Clone, Copy)]
 pub struct Outlist {
     pub number: usize,
     pub names: [u32; Outlist::LIMIT],
@@ -106,7 +106,7 @@ impl Outlist {
 }
 
 // What an edition of the log decides.
-#[derive(Drop)]
+#[derive(Clone, Copy)]
 pub struct Terms {
     // The most slots of a partition.
     pub slots: u32,
@@ -140,7 +140,7 @@ impl Terms {
 }
 
 // An operation of a commit. A clr is a set to nothing, and an unroot a root to nothing.
-#[derive(Drop)]
+#[derive(Clone, Copy)]
 pub enum Operation {
     New(Name, u32),
     Set(Name, u32, Target),
@@ -154,7 +154,7 @@ impl Operation {
 }
 
 // An act whose record is a single line.
-#[derive(Drop)]
+#[derive(Clone, Copy)]
 pub enum Single {
     Open,
     Trace(Partition),
@@ -165,7 +165,7 @@ pub enum Single {
 }
 
 // Why a call is refused: the paper's number, and its extra answer.
-#[derive(Drop)]
+#[derive(Clone, Copy)]
 pub struct Refusal {
     pub number: u32,
     pub extra: usize,
@@ -212,7 +212,7 @@ impl Refusal {
 }
 
 // What a judge says of an act.
-#[derive(Drop)]
+#[derive(Clone, Copy)]
 pub enum Verdict {
     Accepted,
     Refused(Refusal),
@@ -231,7 +231,7 @@ impl Verdict {
 }
 
 // Why an object is still here: what the chain that holds it starts from and the number of its references, or the refusal.
-#[derive(Drop)]
+#[derive(Clone, Copy)]
 pub enum Reason {
     Held(Start, usize),
     Refused(Refusal),

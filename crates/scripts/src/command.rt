@@ -9,7 +9,7 @@ use lines::line::{Line, finish};
 use lines::machine::{Read, Scan};
 
 // A keyword, how many numbers follow it, and the last five of them: e is the last.
-#[derive(Drop)]
+#[derive(Clone, Copy)]
 pub struct Call {
     pub word: u64,
     pub count: usize,
@@ -21,7 +21,7 @@ pub struct Call {
 }
 
 // What a line is.
-#[derive(Drop)]
+#[derive(Clone, Copy)]
 pub enum Command {
     // No word, or a remark.
     Nothing,
@@ -35,7 +35,7 @@ pub enum Command {
 }
 
 // What a next word is.
-#[derive(Drop)]
+#[derive(Clone, Copy)]
 pub enum Next {
     // A number, and the place after it.
     Number(u32, usize),

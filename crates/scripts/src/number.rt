@@ -10,7 +10,7 @@ use lines::words::END;
 const ROOM: usize = 16;
 
 // What a word is.
-#[derive(Drop)]
+#[derive(Clone, Copy)]
 pub(crate) enum Parsed {
     Is(u32),
     Not,

@@ -12,7 +12,7 @@ use kinds::{Name, Operation, Partition, Single, named};
 use lines::line::Line;
 
 // What looks at what is lent, and changes nothing.
-#[derive(Drop)]
+#[derive(Clone, Copy)]
 pub enum Look {
     Read(Name),
     Ask(Name),
@@ -26,7 +26,7 @@ pub enum Look {
 }
 
 // What is done on the lent image, log buffer and words.
-#[derive(Drop)]
+#[derive(Clone, Copy)]
 pub enum Deed {
     Word(usize, u32),
     Format(u32, u32, usize),
@@ -42,7 +42,7 @@ pub enum Deed {
 
 // What a line asks for: to lend so many words of image, bytes of log or words, to put the bytes that stand from a place of the line on, to let an operation wait, or
 // a deed.
-#[derive(Drop)]
+#[derive(Clone, Copy)]
 pub enum Order {
     Nothing,
     What,

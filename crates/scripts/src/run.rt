@@ -3,7 +3,7 @@ ghost use Rattle.std.specs.Prelude.{◌≡◌};
 ghost use Rattle.scripts.specs.Runs.{goes_on, end_of, word_at, bare_of};
 
 // What a run is made of.
-#[derive(Drop)]
+#[derive(Clone, Copy)]
 pub enum Run {
     // Spaces and tabs.
     Gap,
@@ -14,7 +14,7 @@ pub enum Run {
 }
 
 // Where a word stands: from its first byte to the byte after it. Both are the same where there is none.
-#[derive(Drop)]
+#[derive(Clone, Copy)]
 pub struct Span {
     pub from: usize,
     pub to: usize,

@@ -11,7 +11,7 @@ use scripts::run::{Run, bare, end_of};
 const SCRIPT: usize = 1048576;
 
 // The line to play next.
-#[derive(Drop)]
+#[derive(Clone, Copy)]
 pub(crate) struct Feed {
     // Its bytes are at..to, without what ends it.
     pub at: usize,

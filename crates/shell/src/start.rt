@@ -9,7 +9,7 @@ use reporting::asked::asked_of;
 // The most bytes of a log buffer.
 const MOST: usize = 65536;
 
-#[derive(Drop)]
+#[derive(Clone, Copy)]
 pub(crate) struct Start {
     pub desk: Desk,
     pub failed: bool,

@@ -12,7 +12,7 @@ ghost use Rattle.model.specs.Sound.{ref_ok, free_ok, slot_ok, count_ok, flag_ok,
 ghost use Rattle.soundness.specs.Checks.{Shaped, Tallied, reach, test_at};
 
 // What is tested at every index beside the slots: the roots and handles, the flags, and with the phase shut that no flag is up and nothing is marked.
-#[derive(Drop)]
+#[derive(Clone, Copy)]
 enum Check {
     Anchor,
     Flag,

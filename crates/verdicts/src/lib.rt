@@ -14,7 +14,7 @@ ghost use Rattle.verdicts.specs.Searches.{astray, strays, meets, reach};
 use kinds::{Handle, Name, Partition, Refusal, Single, Verdict};
 
 // What the judges look for: a root in use, a partition that is not clean, and a root, a handle or a marked object that leads to an unmarked one.
-#[derive(Drop)]
+#[derive(Clone, Copy)]
 enum Sought {
     Rooted,
     Unclean,

@@ -1,0 +1,20 @@
+use Rattle.soundness.proofs.Tallying.{fails, tallied_at}
+use Rattle.loops.proofs.Turns.{every_none, every_more, every_fails, every_done}
+use Rattle.loops.specs.Loop.{every}
+use Rattle.model.specs.Image.{field}
+use Rattle.model.specs.Sound.{ref_ok}
+use Rattle.soundness.specs.Checks.{Tallied}
+use mathlib.Core.Bool.{true}
+use mathlib.Core.Path.{◌≡◌, sym}
+use Prim.Native.Nat.{◌+◌, ◌*◌, ◌≤◌, ◌-◌}
+use native.Mathlib.Omega.{arith}
+use borrow.Author.Tests.{not-false}
+use Rattle.loops.proofs.Tests.{granted, denied}
+use borrow.Author.Rules.{rules}
+use Rattle.soundness.proofs.fields.Given as goal
+
+abbrev pub invariant-loop-k : goal.invariant-loop-k
+invariant-loop-k l = (l.k ≤ 4) × (every l.k (λ i. ref_ok l.p l.s l.img (field l.j i)) ≡ true) × Tallied l.s l.img (4 * l.j + l.k) l.counts
+
+abbrev pub decreases-loop-k : goal.decreases-loop-k
+decreases-loop-k l = 4 - l.k

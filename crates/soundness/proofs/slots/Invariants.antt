@@ -1,0 +1,19 @@
+use Rattle.soundness.proofs.Tallying.{places, fails, tallied_none, tallied_at}
+use Rattle.loops.proofs.Turns.{every_none, every_more, every_fails, every_done}
+use Rattle.loops.specs.Loop.{every}
+use Rattle.model.specs.Sound.{slot_ok}
+use Rattle.soundness.specs.Checks.{Tallied}
+use mathlib.Core.Bool.{true}
+use mathlib.Core.Path.{◌≡◌, sym}
+use Prim.Native.Nat.{◌+◌, ◌*◌, ◌≤◌, ◌-◌}
+use native.Mathlib.Nat.{zero-mul}
+use native.Mathlib.Omega.{arith}
+use borrow.Author.Tests.{not-false}
+use Rattle.loops.proofs.Tests.{granted, denied}
+use Rattle.soundness.proofs.slots.Given as goal
+
+abbrev pub invariant-loop-j : goal.invariant-loop-j
+invariant-loop-j l = (l.j ≤ l.p * l.s) × (every l.j (slot_ok l.p l.s l.img) ≡ true) × Tallied l.s l.img (4 * l.j) l.counts × (l.q * l.s ≤ l.j) × (l.j ≤ l.q * l.s + l.s)
+
+abbrev pub decreases-loop-j : goal.decreases-loop-j
+decreases-loop-j l = l.p * l.s - l.j

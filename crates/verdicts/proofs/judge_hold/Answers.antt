@@ -1,0 +1,17 @@
+-- `verdicts::judge_hold` meets its contract. Assumes nothing.
+use Rattle.verdicts.proofs.Checks.{passes, stops}
+use Rattle.model.specs.Judge.{judge}
+use native.Mathlib.Omega.{arith}
+use borrow.Author.Tests.{lt-ltb, le-ltb}
+use borrow.Author.Rules.{rules}
+use Rattle.verdicts.proofs.judge_hold.Goals as goal
+
+pub returns-then-h-ge-LIMIT : goal.returns-then-h-ge-LIMIT
+unfolding judge
+returns-then-h-ge-LIMIT c =
+    stops _ (omega (arith, le-ltb)) c.refuse.ensures
+
+pub returns : goal.returns
+unfolding judge
+returns c =
+    passes _ _ (omega (arith, lt-ltb)) c.judge_name.ensures
