@@ -2,8 +2,9 @@
 use mathlib.Core.Path.{sym, ap}
 use lib.ListN.{drop}
 use lib.Seq.{length-take-le}
+use Rattle.catalogue.specs.Call.{Outcome}
 use Rattle.desk.specs.declared.Response.{Response}
-use Rattle.desk.specs.Desk.{Left, rejoined}
+use Rattle.desk.specs.Desk.{rejoined}
 use borrow.Author.Rules.{rules}
 use Rattle.desk.proofs.deed_on.Statement.{statement}
 use Rattle.desk.proofs.deed_on.Tie as tie
@@ -20,12 +21,6 @@ slice-relend-prefix-deed-2 c = search rules
 slice-aggregate-deed-2 : tie.Need-slice-aggregate-deed-2
 slice-aggregate-deed-2 c = sym (length-take-le _ _ (search rules))
 
-slice-relend-prefix-deed-3 : tie.Need-slice-relend-prefix-deed-3
-slice-relend-prefix-deed-3 c = search rules
-
-slice-aggregate-deed-3 : tie.Need-slice-aggregate-deed-3
-slice-aggregate-deed-3 c = sym (length-take-le _ _ (search rules))
-
 deed-requires : tie.Need-deed-requires
 deed-requires c κs = search rules
 
@@ -35,14 +30,10 @@ same_length c = search rules
 same-length-2 : tie.Need-same-length-2
 same-length-2 c = search rules
 
-same-length-3 : tie.Need-same-length-3
-same-length-3 c = search rules
-
 returns : tie.Need-returns
-returns c =
-    let d = c.before.before.before.before.before.before in
-    let a = d.before.before.before.before.before.before.before.args in
-    ap (λ (o : Left Response). rejoined o (drop a.d.image a.img.now) (drop a.d.log a.log.now) (drop a.d.words a.words.now)) d.deed.ensures
+returns c = let d = c.before.before.before.before in
+    let a = d.before.before.before.before.before.args in
+    ap (λ (o : Outcome Response). rejoined o (drop a.d.words a.img.now) (drop a.d.bytes a.log.now)) d.deed.ensures
 
 pub deed-on-spec : {M : Type 1} → statement M
 deed-on-spec =
@@ -52,10 +43,7 @@ deed-on-spec =
     slice-aggregate-deed
     slice-relend-prefix-deed-2
     slice-aggregate-deed-2
-    slice-relend-prefix-deed-3
-    slice-aggregate-deed-3
     deed-requires
     same_length
     same-length-2
-    same-length-3
     returns)

@@ -1,13 +1,14 @@
 -- `desk::step` meets its contract. Assumes nothing.
 use mathlib.Core.Path.{ap}
-use Rattle.desk.specs.Desk.{Put, Lending, turn, left, answered, after_deed, turn_of}
+use Rattle.catalogue.specs.Call.{outcome}
+use Rattle.desk.specs.Desk.{Put, Lending, turn, answered, after_deed, turn_of}
 use borrow.Author.Rules.{rules}
 use Rattle.desk.proofs.step.Statement.{statement}
 use Rattle.desk.proofs.step.Tie as tie
 
 -- the function's start, from where its arms part
-abbrev start : tie.After-slice-known3 → tie.Start
-start c = c.before.before.before.before
+abbrev start : tie.After-slice-known2 → tie.Start
+start c = c.before.before.before
 
 enum_told : tie.Need-enum-told
 enum_told c = search rules
@@ -24,32 +25,17 @@ says-requires-2 c κs = search rules
 enum-known-o : tie.Need-enum-known-o
 enum-known-o c = search rules
 
-with-image-requires : tie.Need-with-image-requires
-with-image-requires c κs = search rules
-
 lend-words-requires : tie.Need-lend-words-requires
 lend-words-requires c κs = search rules
 
 enum-known-o-2 : tie.Need-enum-known-o-2
 enum-known-o-2 c = search rules
 
-with-log-requires : tie.Need-with-log-requires
-with-log-requires c κs = search rules
-
 lend-bytes-requires : tie.Need-lend-bytes-requires
 lend-bytes-requires c κs = search rules
 
 enum-known-o-3 : tie.Need-enum-known-o-3
 enum-known-o-3 c = search rules
-
-with-words-requires : tie.Need-with-words-requires
-with-words-requires c κs = search rules
-
-lend-words-requires-2 : tie.Need-lend-words-requires-2
-lend-words-requires-2 c κs = search rules
-
-enum-known-o-4 : tie.Need-enum-known-o-4
-enum-known-o-4 c = search rules
 
 bytes-on-requires : tie.Need-bytes-on-requires
 bytes-on-requires c κs = search rules
@@ -63,8 +49,8 @@ enum-told-3 c = search rules
 waiting-requires : tie.Need-waiting-requires
 waiting-requires c κs = search rules
 
-enum-known-o-5 : tie.Need-enum-known-o-5
-enum-known-o-5 c = search rules
+enum-known-o-4 : tie.Need-enum-known-o-4
+enum-known-o-4 c = search rules
 
 after-requires : tie.Need-after-requires
 after-requires c κs = search rules
@@ -89,9 +75,8 @@ same_length c = search rules
 returns-3 : tie.Need-returns-3
 unfolding turn_of
 returns-3 c =
-    let o = c.before.before.before.before.before.before in
-    let a = (start o.before.before).args in
-    rw (o.o.given.1, ← c.before.before.before.before.with-image.ensures) (ap (λ (l : Lending). left l.turn l.list a.log.now a.words.now) c.before.before.lend-words.ensures)
+    let o = c.before.before.before.before.before in
+    rw o.o.given.1 (ap (λ (l : Lending). outcome l.turn l.list (start o.before.before).args.log.now) c.before.before.lend-words.ensures)
 
 same-length-2 : tie.Need-same-length-2
 same-length-2 c = search rules
@@ -99,9 +84,8 @@ same-length-2 c = search rules
 returns-4 : tie.Need-returns-4
 unfolding turn_of
 returns-4 c =
-    let o = c.before.before.before.before.before.before in
-    let a = (start o.before.before).args in
-    rw (o.o2.given.1, ← c.before.before.before.before.with-log.ensures) (ap (λ (l : Lending). left l.turn a.img.now l.list a.words.now) c.before.before.lend-bytes.ensures)
+    let o = c.before.before.before.before.before in
+    rw o.o2.given.1 (ap (λ (l : Lending). outcome l.turn (start o.before.before).args.img.now l.list) c.before.before.lend-bytes.ensures)
 
 same-length-3 : tie.Need-same-length-3
 same-length-3 c = search rules
@@ -109,42 +93,29 @@ same-length-3 c = search rules
 returns-5 : tie.Need-returns-5
 unfolding turn_of
 returns-5 c =
-    let o = c.before.before.before.before.before.before in
+    let b = c.before.before.before in
+    let o = b.before.before.before in
     let a = (start o.before.before).args in
-    rw (o.o3.given.1, ← c.before.before.before.before.with-words.ensures) (ap (λ (l : Lending). left l.turn a.img.now a.log.now l.list) c.before.before.lend-words2.ensures)
+    rw (o.o3.given.1, c.says3.ensures) (ap (λ (p : Put). outcome (turn a.d p.said) a.img.now p.list) b.bytes_on.ensures)
+
+returns-6 : tie.Need-returns-6
+unfolding turn_of
+returns-6 c = rw (c.before.enum-told3.given.1, c.waiting.ensures)
 
 same-length-4 : tie.Need-same-length-4
 same-length-4 c = search rules
 
-returns-6 : tie.Need-returns-6
-unfolding turn_of
-returns-6 c =
-    let b = c.before.before.before in
-    let o = b.before.before.before in
-    let a = (start o.before.before).args in
-    rw (o.o4.given.1, c.says3.ensures) (ap (λ (p : Put). left (turn a.d p.said) a.img.now p.list a.words.now) b.bytes_on.ensures)
-
-returns-7 : tie.Need-returns-7
-unfolding turn_of
-returns-7 c = rw (c.before.enum-told3.given.1, c.waiting.ensures)
-
 same-length-5 : tie.Need-same-length-5
 same-length-5 c = search rules
 
-same-length-6 : tie.Need-same-length-6
-same-length-6 c = search rules
-
-same-length-7 : tie.Need-same-length-7
-same-length-7 c = search rules
-
-returns-8 : tie.Need-returns-8
+returns-7 : tie.Need-returns-7
 unfolding turn_of
-returns-8 c =
-    let x = c.before.before.before.before.before.before.before in
-    let e = x.before.before.before.before in
+returns-7 c =
+    let x = c.before.before.before.before.before in
+    let e = x.before.before.before in
     let o = e.before.before in
-    rw (o.o5.given.1, c.says4.ensures, e.after.ensures)
-    (ap (answered (turn (after_deed o.o5.given.0.0 (start o.before.before).args.d))) x.deed-on.ensures)
+    rw (o.o4.given.1, c.says4.ensures, e.after.ensures)
+    (ap (answered (turn (after_deed o.o4.given.0.0 (start o.before.before).args.d))) x.deed-on.ensures)
 
 pub step_spec : {M : Type 1} → statement M
 step_spec =
@@ -155,20 +126,15 @@ step_spec =
     enum-told-2
     says-requires-2
     enum-known-o
-    with-image-requires
     lend-words-requires
     enum-known-o-2
-    with-log-requires
     lend-bytes-requires
     enum-known-o-3
-    with-words-requires
-    lend-words-requires-2
-    enum-known-o-4
     bytes-on-requires
     says-requires-3
     enum-told-3
     waiting-requires
-    enum-known-o-5
+    enum-known-o-4
     after-requires
     deed-on-requires
     says-requires-4
@@ -180,10 +146,7 @@ step_spec =
     returns-4
     same-length-3
     returns-5
-    same-length-4
     returns-6
-    returns-7
+    same-length-4
     same-length-5
-    same-length-6
-    same-length-7
-    returns-8)
+    returns-7)

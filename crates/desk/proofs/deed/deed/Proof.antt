@@ -1,30 +1,17 @@
 -- `desk::deed::deed` meets its contract. Assumes nothing.
-use mathlib.Core.Path.{◌≡◌, ap}
-use mathlib.Core.List.{List}
-use Prim.Native.Nat.{ℕ}
-use Rattle.kinds.specs.declared.Reason.{Reason}
-use Rattle.holding.specs.Finding.{Explained}
-use Rattle.catalogue.specs.Call.{Outcome}
-use Rattle.desk.specs.declared.Response.{Response}
-use Rattle.desk.specs.declared.Response.TheVariants.{Done, Closed, Freed, Why}
-use Rattle.desk.specs.Desk.{Put, left, beside, answered}
+use mathlib.Core.Path.{ap}
+use Rattle.catalogue.specs.Call.{outcome}
+use Rattle.desk.specs.declared.Response.TheVariants.{Done, Closed, Freed}
+use Rattle.desk.specs.Desk.{Put, answered}
 use borrow.Author.Rules.{rules}
 use Rattle.desk.proofs.deed.deed.Statement.{statement}
 use Rattle.desk.proofs.deed.deed.Tie as tie
 
--- the function's start, from where its arms part
-abbrev start : tie.After-slice-known3 → tie.Start
-start c = c.before.before.before
-
--- a logged call, beside the words
-logged : {A : Type 0} (f : A → Response) (ws : List ℕ) (o p : Outcome A) → o ≡ p → answered f (beside o ws) ≡ answered f (beside p ws)
-logged f ws o p e = ap (λ (x : Outcome _). answered f (beside x ws)) e
-
 enum-known-x : tie.Need-enum-known-x
 enum-known-x c = search rules
 
-put-word-requires : tie.Need-put-word-requires
-put-word-requires c κs = search rules
+word-requires : tie.Need-word-requires
+word-requires c κs = search rules
 
 enum-known-x-2 : tie.Need-enum-known-x-2
 enum-known-x-2 c = search rules
@@ -80,23 +67,11 @@ drop-requires c κs = search rules
 enum-known-x-5 : tie.Need-enum-known-x-5
 enum-known-x-5 c = search rules
 
-put-word-requires-2 : tie.Need-put-word-requires-2
-put-word-requires-2 c κs = search rules
-
-enum-known-x-6 : tie.Need-enum-known-x-6
-enum-known-x-6 c = search rules
-
-why-requires : tie.Need-why-requires
-why-requires c κs = search rules
-
-enum-known-x-7 : tie.Need-enum-known-x-7
-enum-known-x-7 c = search rules
-
 recover-requires : tie.Need-recover-requires
 recover-requires c κs = search rules
 
-enum-known-x-8 : tie.Need-enum-known-x-8
-enum-known-x-8 c = search rules
+enum-known-x-6 : tie.Need-enum-known-x-6
+enum-known-x-6 c = search rules
 
 seen-requires : tie.Need-seen-requires
 seen-requires c κs = search rules
@@ -105,7 +80,7 @@ same_length : tie.Need-same-length
 same_length c = search rules
 
 returns : tie.Need-returns
-returns c = let x = c.before.before.before.before.before in rw x.x.given.1 (ap (λ (p : Put). left p.said p.list (start x.before.before).args.log.now (start x.before.before).args.words.now) c.before.before.put-word.ensures)
+returns c = let x = c.before.before.before.before.before in rw x.x.given.1 (ap (λ (p : Put). outcome p.said p.list x.before.before.before.before.args.log.now) c.before.before.word.ensures)
 
 same-length-2 : tie.Need-same-length-2
 same-length-2 c = search rules
@@ -114,7 +89,7 @@ same-length-3 : tie.Need-same-length-3
 same-length-3 c = search rules
 
 returns-2 : tie.Need-returns-2
-returns-2 c = let d = c.before.before.before.before in rw d.before.before.before.before.x2.given.1 (logged Done _ _ _ d.format.ensures)
+returns-2 c = let d = c.before.before.before.before in rw d.before.before.before.before.x2.given.1 (ap (answered Done) d.format.ensures)
 
 same-length-4 : tie.Need-same-length-4
 same-length-4 c = search rules
@@ -123,7 +98,7 @@ same-length-5 : tie.Need-same-length-5
 same-length-5 c = search rules
 
 returns-3 : tie.Need-returns-3
-returns-3 c = let d = c.before.before.before.before in rw d.before.before.before.before.x3.given.1 (logged Done _ _ _ d.commit.ensures)
+returns-3 c = let d = c.before.before.before.before in rw d.before.before.before.before.x3.given.1 (ap (answered Done) d.commit.ensures)
 
 same-length-6 : tie.Need-same-length-6
 same-length-6 c = search rules
@@ -132,7 +107,7 @@ same-length-7 : tie.Need-same-length-7
 same-length-7 c = search rules
 
 returns-4 : tie.Need-returns-4
-returns-4 c = let d = c.before.before.before.before in let e = d.before.before.before in rw (e.before.before.before.x4.given.1, e.enum_told.given.1) (logged Done _ _ _ d.«open».ensures)
+returns-4 c = let d = c.before.before.before.before in let e = d.before.before.before in rw (e.before.before.before.x4.given.1, e.enum_told.given.1) (ap (answered Done) d.«open».ensures)
 
 same-length-8 : tie.Need-same-length-8
 same-length-8 c = search rules
@@ -141,7 +116,7 @@ same-length-9 : tie.Need-same-length-9
 same-length-9 c = search rules
 
 returns-5 : tie.Need-returns-5
-returns-5 c = let d = c.before.before.before.before in let e = d.before.before.before.before in rw (e.before.before.before.x4.given.1, e.a.given.1) (logged Done _ _ _ d.trace.ensures)
+returns-5 c = let d = c.before.before.before.before in let e = d.before.before.before.before in rw (e.before.before.before.x4.given.1, e.a.given.1) (ap (answered Done) d.trace.ensures)
 
 same-length-10 : tie.Need-same-length-10
 same-length-10 c = search rules
@@ -150,7 +125,7 @@ same-length-11 : tie.Need-same-length-11
 same-length-11 c = search rules
 
 returns-6 : tie.Need-returns-6
-returns-6 c = let d = c.before.before.before.before in let e = d.before.before.before in rw (e.before.before.before.x4.given.1, e.enum-told2.given.1) (logged Closed _ _ _ d.close.ensures)
+returns-6 c = let d = c.before.before.before.before in let e = d.before.before.before in rw (e.before.before.before.x4.given.1, e.enum-told2.given.1) (ap (answered Closed) d.close.ensures)
 
 same-length-12 : tie.Need-same-length-12
 same-length-12 c = search rules
@@ -159,7 +134,7 @@ same-length-13 : tie.Need-same-length-13
 same-length-13 c = search rules
 
 returns-7 : tie.Need-returns-7
-returns-7 c = let d = c.before.before.before.before in let e = d.before.before.before.before in rw (e.before.before.before.x4.given.1, e.a2.given.1) (logged Freed _ _ _ d.local.ensures)
+returns-7 c = let d = c.before.before.before.before in let e = d.before.before.before.before in rw (e.before.before.before.x4.given.1, e.a2.given.1) (ap (answered Freed) d.local.ensures)
 
 same-length-14 : tie.Need-same-length-14
 same-length-14 c = search rules
@@ -168,7 +143,7 @@ same-length-15 : tie.Need-same-length-15
 same-length-15 c = search rules
 
 returns-8 : tie.Need-returns-8
-returns-8 c = let d = c.before.before.before.before in let e = d.before.before.before.before in rw (e.before.before.before.x4.given.1, e.a3.given.1) (logged Done _ _ _ d.hold.ensures)
+returns-8 c = let d = c.before.before.before.before in let e = d.before.before.before.before in rw (e.before.before.before.x4.given.1, e.a3.given.1) (ap (answered Done) d.hold.ensures)
 
 same-length-16 : tie.Need-same-length-16
 same-length-16 c = search rules
@@ -177,41 +152,26 @@ same-length-17 : tie.Need-same-length-17
 same-length-17 c = search rules
 
 returns-9 : tie.Need-returns-9
-returns-9 c = let d = c.before.before.before.before in let e = d.before.before.before.before in rw (e.before.before.before.x4.given.1, e.a4.given.1) (logged Done _ _ _ d.drop.ensures)
+returns-9 c = let d = c.before.before.before.before in let e = d.before.before.before.before in rw (e.before.before.before.x4.given.1, e.a4.given.1) (ap (answered Done) d.drop.ensures)
 
 same-length-18 : tie.Need-same-length-18
 same-length-18 c = search rules
 
-returns-10 : tie.Need-returns-10
-returns-10 c = let x = c.before.before.before.before.before in rw x.x5.given.1 (ap (λ (p : Put). left p.said (start x.before.before).args.img.now (start x.before.before).args.log.now p.list) c.before.before.put-word2.ensures)
-
 same-length-19 : tie.Need-same-length-19
 same-length-19 c = search rules
 
-same-length-20 : tie.Need-same-length-20
-same-length-20 c = search rules
+returns-10 : tie.Need-returns-10
+returns-10 c = let r = c.before.before in rw r.before.before.before.before.x5.given.1 r.recover.ensures
 
 returns-11 : tie.Need-returns-11
-returns-11 c = let x = c.before.before.before.before.before.before in rw x.x6.given.1 (ap (λ (e : Explained Reason). left (Why e.answer) (start x.before.before).args.img.now (start x.before.before).args.log.now e.words) c.before.before.why.ensures)
-
-same-length-21 : tie.Need-same-length-21
-same-length-21 c = search rules
-
-same-length-22 : tie.Need-same-length-22
-same-length-22 c = search rules
-
-returns-12 : tie.Need-returns-12
-returns-12 c = let r = c.before.before in rw r.before.before.before.before.x7.given.1 (ap (λ (o : Outcome Response). beside o (start r.before.before.before.before.before.before).args.words.now) r.recover.ensures)
-
-returns-13 : tie.Need-returns-13
-returns-13 c = rw (c.before.before.x8.given.1, c.seen.ensures)
+returns-11 c = rw (c.before.before.x6.given.1, c.seen.ensures)
 
 pub deed-spec : {M : Type 1} → statement M
 deed-spec =
     tie.close
     (tie.spec
     enum-known-x
-    put-word-requires
+    word-requires
     enum-known-x-2
     format-requires
     enum-known-x-3
@@ -230,12 +190,8 @@ deed-spec =
     enum-known-a-4
     drop-requires
     enum-known-x-5
-    put-word-requires-2
-    enum-known-x-6
-    why-requires
-    enum-known-x-7
     recover-requires
-    enum-known-x-8
+    enum-known-x-6
     seen-requires
     same_length
     returns
@@ -264,11 +220,6 @@ deed-spec =
     same-length-17
     returns-9
     same-length-18
-    returns-10
     same-length-19
-    same-length-20
-    returns-11
-    same-length-21
-    same-length-22
-    returns-12
-    returns-13)
+    returns-10
+    returns-11)

@@ -18,14 +18,11 @@ enum-told-4 c = search rules
 enum-told-5 : tie.Need-enum-told-5
 enum-told-5 c = search rules
 
-enum-told-6 : tie.Need-enum-told-6
-enum-told-6 c = search rules
-
 enum-known-l : tie.Need-enum-known-l
 enum-known-l c = search rules
 
-enum-told-7 : tie.Need-enum-told-7
-enum-told-7 c = search rules
+enum-told-6 : tie.Need-enum-told-6
+enum-told-6 c = search rules
 
 returns : tie.Need-returns
 returns c = search rules
@@ -43,13 +40,10 @@ returns-5 : tie.Need-returns-5
 returns-5 c = search rules
 
 returns-6 : tie.Need-returns-6
-returns-6 c = search rules
+returns-6 c = rw c.before.l.given.1
 
 returns-7 : tie.Need-returns-7
-returns-7 c = rw c.before.l.given.1
-
-returns-8 : tie.Need-returns-8
-returns-8 c = search rules
+returns-7 c = search rules
 
 pub past-spec : {M : Type 1} → statement M
 past-spec =
@@ -60,14 +54,12 @@ past-spec =
     enum-told-3
     enum-told-4
     enum-told-5
-    enum-told-6
     enum-known-l
-    enum-told-7
+    enum-told-6
     returns
     returns-2
     returns-3
     returns-4
     returns-5
     returns-6
-    returns-7
-    returns-8)
+    returns-7)

@@ -21,14 +21,11 @@ slice-aggregate-dot c = sym (length-take-le _ _ c.before.if1.false)
 dot-requires : tie.Need-dot-requires
 dot-requires c κs = search rules
 
-says-requires-2 : tie.Need-says-requires-2
-says-requires-2 c κs = search rules
-
 same_length : tie.Need-same-length
 same_length c = search rules
 
 returns-2 : tie.Need-returns-2
-returns-2 c = let l = c.before.before.before in rw c.says2.ensures (lend_done _ _ _ _ _ l.before.before.if1.false _ l.dot.ensures)
+returns-2 c = lend_done _ _ _ _ _ c.before.before.before.before.if1.false _ c.before.before.dot.ensures
 
 pub lend-bytes-spec : {M : Type 1} → statement M
 lend-bytes-spec =
@@ -39,6 +36,5 @@ lend-bytes-spec =
     slice-relend-prefix-dot
     slice-aggregate-dot
     dot-requires
-    says-requires-2
     same_length
     returns-2)

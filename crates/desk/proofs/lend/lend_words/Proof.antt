@@ -21,14 +21,11 @@ slice-aggregate-clear c = sym (length-take-le _ _ c.before.if1.false)
 clear-requires : tie.Need-clear-requires
 clear-requires c κs = search rules
 
-says-requires-2 : tie.Need-says-requires-2
-says-requires-2 c κs = search rules
-
 same_length : tie.Need-same-length
 same_length c = search rules
 
 returns-2 : tie.Need-returns-2
-returns-2 c = let l = c.before.before.before in rw c.says2.ensures (lend_done _ _ _ _ _ l.before.before.if1.false _ l.clear.ensures)
+returns-2 c = lend_done _ _ _ _ _ c.before.before.before.before.if1.false _ c.before.before.clear.ensures
 
 pub lend-words-spec : {M : Type 1} → statement M
 lend-words-spec =
@@ -39,6 +36,5 @@ lend-words-spec =
     slice-relend-prefix-clear
     slice-aggregate-clear
     clear-requires
-    says-requires-2
     same_length
     returns-2)
