@@ -158,8 +158,8 @@ lend_first n x d e xs = cond (leb n (length xs)) (lending (turn e Ok) (replicate
 abbrev pub words_for : ℕ → Desk → Image → Lending
 words_for n d img = lend_first n 0 d (desk n d.bytes d.waits) img
 
-abbrev pub bytesFor : ℕ → Desk → List ℕ → Lending
-bytesFor n d log = lend_first n 46 d (desk d.words n d.waits) log
+abbrev pub bytes_for : ℕ → Desk → List ℕ → Lending
+bytes_for n d log = lend_first n 46 d (desk d.words n d.waits) log
 
 -- after a commit nothing waits
 abbrev pub is_commit : A-deed → Bool
@@ -178,7 +178,7 @@ unfoldable pub turn_of : Order → List ℕ → Desk → List Operation → Imag
 turn_of Nothing line d ops img log = outcome (turn d Unanswered) img log
 turn_of What line d ops img log = outcome (turn d Asked-what) img log
 turn_of (Lend-words n) line d ops img log = outcome (words_for n d img).turn (words_for n d img).list log
-turn_of (Lend-bytes n) line d ops img log = outcome (bytesFor n d log).turn img (bytesFor n d log).list
+turn_of (Lend-bytes n) line d ops img log = outcome (bytes_for n d log).turn img (bytes_for n d log).list
 turn_of (Bytes from) line d ops img log = outcome (turn d (put_on d.bytes line from log).said) img (put_on d.bytes line from log).list
 turn_of (Wait o) line d ops img log = outcome (turn (desk d.words d.bytes (d.waits + 1)) (Waits (d.waits + 1))) img log
 turn_of (Deed x) line d ops img log = answered (turn (after_deed x d)) (on_lent d (deed_of x ops d.waits) img log)

@@ -1,7 +1,7 @@
 // The commands that change by hand what is lent: image, buffer, bytes.
 ghost use Rattle.std.specs.Prelude.{◌≡◌, length, take, replicate};
 ghost use Rattle.std.specs.Counts.{IsPrefixLen};
-ghost use Rattle.desk.specs.Desk.{lending, words_for, bytesFor, listed_from, bytes_of, put, put_at, put_from};
+ghost use Rattle.desk.specs.Desk.{lending, words_for, bytes_for, listed_from, bytes_of, put, put_at, put_from};
 
 use crate::{Desk, Response, Turn};
 use scripts::command::{Next, next_number};
@@ -37,7 +37,7 @@ fn dot(bytes: &mut [u8])
 
 // `buffer`: the first n bytes are lent, and become 46.
 pub(crate) fn lend_bytes(n: usize, d: Desk, log: &mut [u8]) -> Turn
-    ensures { lending result log.new ≡ bytesFor n d log.old }
+    ensures { lending result log.new ≡ bytes_for n d log.old }
 {
     if log.len() < n {
         return d.says(Response::What);
