@@ -6,32 +6,29 @@ use Rattle.shell.proofs.run.lines.Statement.{statement}
 use Rattle.shell.proofs.run.lines.Tie as tie
 
 abbrev invariant-loop : tie.invariant-loop
-invariant-loop script₀ out₀ img₀ log₀ words₀ ops₀ d₀ put₀ line₀ what₀ f₀ script out img log words ops d put line what f = Held d img log words script f line
+invariant-loop script₀ out₀ img₀ log₀ ops₀ d₀ put₀ line₀ what₀ f₀ script out img log ops d put line what f = Held d img log script f line
 
 abbrev decreases-loop : tie.decreases-loop
-decreases-loop script₀ out₀ img₀ log₀ words₀ ops₀ d₀ put₀ line₀ what₀ f₀ script out img log words ops d put line what f = 1048578 - f.at
+decreases-loop script₀ out₀ img₀ log₀ ops₀ d₀ put₀ line₀ what₀ f₀ script out img log ops d put line what f = 1048578 - f.at
 
 -- a turn's test, from its step; its step, from its end
 abbrev test : tie.After-step invariant-loop decreases-loop → tie.Then2 invariant-loop decreases-loop
-test c = c.before.before.before.before.before.before.before
+test c = c.before.before.before.before.before.before
 
 abbrev stepped : tie.After-next-arg invariant-loop decreases-loop → tie.After-step invariant-loop decreases-loop
-stepped c = c.before.before.before.before.before.before.before.before.before.before.before.before.before.before.before
+stepped c = c.before.before.before.before.before.before.before.before.before.before.before.before.before
 
-image-space-requires : tie.Need-image-space-requires invariant-loop decreases-loop
-image-space-requires c κs = search rules
+words-requires : tie.Need-words-requires invariant-loop decreases-loop
+words-requires c κs = search rules
 
-log-space-requires : tie.Need-log-space-requires invariant-loop decreases-loop
-log-space-requires c κs = search rules
-
-word-space-requires : tie.Need-word-space-requires invariant-loop decreases-loop
-word-space-requires c κs = search rules
+bytes-requires : tie.Need-bytes-requires invariant-loop decreases-loop
+bytes-requires c κs = search rules
 
 no-operations-requires : tie.Need-no-operations-requires invariant-loop decreases-loop
 no-operations-requires c κs = search rules
 
 slice-aggregate-begin : tie.Need-slice-aggregate-begin invariant-loop decreases-loop
-slice-aggregate-begin c = c.before.before.before.log-space.ensures
+slice-aggregate-begin c = c.before.before.bytes.ensures
 
 begin-requires : tie.Need-begin-requires invariant-loop decreases-loop
 begin-requires c κs = search rules
@@ -46,9 +43,8 @@ loop-holds : tie.Need-loop-init invariant-loop decreases-loop
 loop-holds c =
     let f = c.before.before in
     let b = f.before.before.before.before.before in
-    let w = b.before.before.before in
-    let m = w.before.before in
-    held_first _ _ _ _ _ _ m.image-space.ensures (search (rules, w.before.log-space.ensures, b.begin.auto)) w.word-space.ensures (search (rules, f.first.auto, m.before.before.requires)) b.begin.ensures f.first.ensures.1
+    let w = b.before.before.before.before in
+    held_first _ _ _ _ _ w.words.ensures (search (rules, b.before.before.before.bytes.ensures, b.begin.auto)) (search (rules, f.first.auto, w.before.before.requires)) b.begin.ensures f.first.ensures.1
 
 sub-text : tie.Need-overflow-sub-text invariant-loop decreases-loop
 sub-text c = let h = c.before.before.loop.invariant in search (rules, h.fed)
@@ -63,16 +59,13 @@ asked-requires : tie.Need-asked-requires invariant-loop decreases-loop
 asked-requires c κs = search rules
 
 slice-aggregate-step : tie.Need-slice-aggregate-step invariant-loop decreases-loop
-slice-aggregate-step c = let t = c.before.before.before.before in t.before.before.loop.invariant.image
+slice-aggregate-step c = let t = c.before.before.before.before in t.before.before.loop.invariant.words
 
 slice-aggregate-step-2 : tie.Need-slice-aggregate-step-2 invariant-loop decreases-loop
 slice-aggregate-step-2 c = let t = c.before.before.before.before.before in t.before.before.loop.invariant.bytes
 
-slice-aggregate-step-3 : tie.Need-slice-aggregate-step-3 invariant-loop decreases-loop
-slice-aggregate-step-3 c = let t = c.before.before.before.before.before.before in t.before.before.loop.invariant.words
-
 step-requires : tie.Need-step-requires invariant-loop decreases-loop
-step-requires c κs = let t = c.before.before.before.before.before.before in let h = t.before.before.loop.invariant in search (rules, h, h.fed)
+step-requires c κs = let t = c.before.before.before.before.before in let h = t.before.before.loop.invariant in search (rules, h, h.fed)
 
 enum-known-o : tie.Need-enum-known-o invariant-loop decreases-loop
 enum-known-o c = search rules
@@ -87,11 +80,11 @@ is-what-requires : tie.Need-is-what-requires invariant-loop decreases-loop
 is-what-requires c κs = search rules
 
 add-line : tie.Need-overflow-add-line invariant-loop decreases-loop
-add-line c = let h = (test c.before.before.before.before.before.before).before.before.loop.inv in search (rules, h, h.fed)
+add-line c = let h = (test c.before.before.before.before.before).before.before.loop.inv in search (rules, h, h.fed)
 
 say-requires : tie.Need-say-requires invariant-loop decreases-loop
-say-requires c κs = let s = c.before.before.before.before.before.before.before.before.before.before in
-    lent_next _ _ _ _ _ _ _ (test s).before.before.loop.invariant _ _ _ _ _ _ _ s.step.ensures (search rules) (search rules) (search rules)
+say-requires c κs = let s = c.before.before.before.before.before.before.before.before in
+    lent_next _ _ _ _ _ _ (test s).before.before.loop.invariant _ _ _ _ _ _ s.step.ensures (search rules) (search rules)
 
 settle-requires : tie.Need-settle-requires invariant-loop decreases-loop
 settle-requires c κs = search rules
@@ -110,7 +103,7 @@ loop-again c =
     let s = stepped c.before.before.before in
     let t = test s in
     let h = t.before.before.loop.inv in
-    held_next _ _ _ _ _ _ _ h _ _ _ _ _ _ _ s.step.ensures (search rules) (search rules) (search (rules, h.words, s.step.kept)) _ _ (search (rules, h.space, c.before.before.next.auto)) t.if2.taken c.before.before.next.ensures
+    held_next _ _ _ _ _ _ h _ _ _ _ _ _ s.step.ensures (search rules) (search rules) _ _ (search (rules, h.space, c.before.before.next.auto)) t.if2.taken c.before.before.next.ensures
 
 flush-requires : tie.Need-flush-requires invariant-loop decreases-loop
 flush-requires c κs = search rules
@@ -130,9 +123,8 @@ lines-spec =
     (tie.spec
     invariant-loop
     decreases-loop
-    image-space-requires
-    log-space-requires
-    word-space-requires
+    words-requires
+    bytes-requires
     no-operations-requires
     slice-aggregate-begin
     begin-requires
@@ -145,7 +137,6 @@ lines-spec =
     asked-requires
     slice-aggregate-step
     slice-aggregate-step-2
-    slice-aggregate-step-3
     step-requires
     enum-known-o
     mul-ops

@@ -11,9 +11,6 @@ slice-aggregate-seen c = sym (length-take-le _ _ (search rules))
 slice-aggregate-seen-2 : tie.Need-slice-aggregate-seen-2
 slice-aggregate-seen-2 c = sym (length-take-le _ _ (search rules))
 
-slice-aggregate-seen-3 : tie.Need-slice-aggregate-seen-3
-slice-aggregate-seen-3 c = sym (length-take-le _ _ (search rules))
-
 seen-requires : tie.Need-seen-requires
 seen-requires c κs = search rules
 
@@ -22,4 +19,4 @@ returns c = search rules
 
 pub seen-on-spec : {M : Type 1} → statement M
 seen-on-spec =
-    tie.close (tie.spec slice-aggregate-seen slice-aggregate-seen-2 slice-aggregate-seen-3 seen-requires returns)
+    tie.close (tie.spec slice-aggregate-seen slice-aggregate-seen-2 seen-requires returns)

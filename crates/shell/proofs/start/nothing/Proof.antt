@@ -8,7 +8,7 @@ new-requires : tie.Need-new-requires
 new-requires c κs = search rules
 
 returns : tie.Need-returns
-returns c = rw c.new.ensures (record { image = omega arith; log = omega arith; words = omega arith; waits = omega arith })
+returns c = rw c.new.ensures (record { words = omega arith; bytes = omega arith; waits = omega arith })
 
 pub nothing-spec : {M : Type 1} → statement M
 nothing-spec = tie.close (tie.spec new-requires returns)
