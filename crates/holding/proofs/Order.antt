@@ -1,8 +1,9 @@
 -- The order of lists, and that no two chains are foremost.
 -- Assumes nothing.
-use Prim.Native.Nat.{ℕ, suc}
+use Prim.Native.Nat.{ℕ, suc, ◌<◌}
 use mathlib.Core.Path.{◌≡◌, refl, sym, ap}
 use mathlib.Core.List.{List, [], ◌∷◌}
+use mathlib.Core.Logic.{◌⊎◌, inl, inr}
 use native.Mathlib.Nat.{le_antisymm}
 use native.Mathlib.Omega.{arith}
 use lib.ListN.{length}
@@ -14,12 +15,31 @@ pub follows_length : {S : ℕ} {img : Image} {t j : ℕ} {ns fs : List ℕ} → 
 follows_length last = refl
 follows_length (on l n a) = ap suc (follows_length a)
 
+-- what two lists in order are, by their first numbers
+Firsts : List ℕ → List ℕ → Type 0
+Firsts [] m = Unit {0}
+Firsts (a ∷ l) [] = ⊥
+Firsts (a ∷ l) (b ∷ m) = (a < b) ⊎ ((a ≡ b) × Upto l m)
+
+firsts : {l m : List ℕ} → Upto l m → Firsts l m
+unfolding Firsts
+firsts ended = tt
+firsts (less a) = inl a
+firsts (same p) = inr (refl, p)
+
 pub upto_both : {l m : List ℕ} → Upto l m → Upto m l → l ≡ m
-upto_both ended ended = refl
-upto_both (less a) (less b) = absurd (omega arith)
-upto_both (less a) (same q) = absurd (omega arith)
-upto_both (same p) (less b) = absurd (omega arith)
-upto_both (same {a = x} p) (same q) = ap (λ (r : List ℕ). x ∷ r) (upto_both p q)
+unfolding Firsts
+upto_both {l} {m} p q = go l m p q
+  where
+    go : (l m : List ℕ) → Upto l m → Upto m l → l ≡ m
+    go [] [] p q = refl
+    go [] (b ∷ m) p q = absurd (firsts q)
+    go (a ∷ l) [] p q = absurd (firsts p)
+    go (a ∷ l) (b ∷ m) p q =
+        elim (firsts p) [
+            inl h ↦ elim (firsts q) [ inl k ↦ absurd (omega arith) | inr k ↦ absurd (omega (arith, k.0)) ]
+          | inr h ↦ elim (firsts q) [ inl k ↦ absurd (omega (arith, h.0)) | inr k ↦ rw (h.0, go l m h.1 k.1) ]
+        ]
 
 pub upto_refl : (l : List ℕ) → Upto l l
 upto_refl [] = ended

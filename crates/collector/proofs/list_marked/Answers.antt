@@ -61,7 +61,7 @@ overflow_add-m c =
 pub loop-k-preserved : goal.loop-k-preserved
 loop-k-preserved c =
     let l = c.loop-k in
-    elim c.if-state_at-eq2.branch [ then-state_at-eq2 h ↦ rw (h.way_told-1, h.list-is) (search rules, length-set l.list l.m _ ∙ l.invariant.1, todo_in l.invariant.2 (omega (arith, eq-eqb)) (omega arith)) | else-state_at-eq2 h ↦ rw (h.1, h.2) (search rules, l.invariant.1, todo_out l.invariant.2 (omega (arith, ne_eqb)) (omega arith)) ]
+    elim c.if-state_at-eq2.branch [ then-state_at-eq2 h ↦ rw (h.list-is, h.m-is) (search rules, length-set l.list l.m _ ∙ l.invariant.1, todo_in l.invariant.2 (omega (arith, eq-eqb)) (omega arith)) | else-state_at-eq2 h ↦ rw (h.list-is, h.m-is) (search rules, l.invariant.1, todo_out l.invariant.2 (omega (arith, ne_eqb)) (omega arith)) ]
 
 pub returns : goal.returns
 returns c =

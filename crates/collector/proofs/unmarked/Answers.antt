@@ -14,6 +14,7 @@ use Prim.Native.Nat.{ℕ, ◌≤◌, ◌-◌, ◌+◌}
 use borrow.Author.Tests.{eq-eqb, ne_eqb}
 use borrow.Author.Rules.{rules}
 use Rattle.collector.proofs.unmarked.Goals as goal
+use Rattle.collector.proofs.unmarked.Goals.{else-state_at-eq1, then-state_at-eq1}
 
 pub loop-j-init : goal.loop-j-init
 loop-j-init c =
@@ -33,9 +34,7 @@ loop-j-preserved c =
     let e = c.state_at.ensures in
     let f : ℕ → Bool = λ i. eqb (get c.args.img.now (state i)) 1 in (
       search rules,
-      ⊎_elim (λ h. h.1 ∙ ap (λ (b : Bool). l.c + bit b) (sym (eq-eqb _ _ (sym e ∙ h.0.taken))) ∙ tally_more f l.j l.c l.invariant.1)
-          (λ h. let z : l.c ≡ l.c + 0 = omega arith in h.1 ∙ z ∙ ap (λ (b : Bool). l.c + bit b) (sym (ne_eqb _ _ (λ q. h.0.left (e ∙ q)))) ∙ tally_more f l.j l.c l.invariant.1)
-          c.if-state_at-eq1.branch,
+      elim c.if-state_at-eq1.branch [ then-state_at-eq1 h ↦ h.c-is ∙ ap (λ (b : Bool). l.c + bit b) (sym (eq-eqb _ _ (sym e ∙ h.if-state_at-eq1.true))) ∙ tally_more f l.j l.c l.invariant.1 | else-state_at-eq1 h ↦ let z : l.c ≡ l.c + 0 = omega arith in h.c-is ∙ z ∙ ap (λ (b : Bool). l.c + bit b) (sym (ne_eqb _ _ (λ q. h.if-state_at-eq1.false (e ∙ q)))) ∙ tally_more f l.j l.c l.invariant.1 ],
     )
 
 pub returns : goal.returns

@@ -36,10 +36,10 @@ loop-k-preserved c =
     let n = c.note-end.ensures in
     let m = rw c.field_at-w.ensures at n.0 in (
       search rules,
-      with_mark l.inv.1 _ (names) m,
-      m ∙ each_more (λ x i. mark_word a.s x (get x (field a.j i))) _ l.k l.img l.inv.2,
+      with_mark l.invariant.1 _ (names) m,
+      m ∙ each_more (λ x i. mark_word a.s x (get x (field a.j i))) _ l.k l.img l.invariant.2,
       n.1,
-      longer_then l.inv.4 n.2,
+      longer_then l.invariant.4 n.2,
     )
 
 pub shape_of-img : goal.shape_of-img

@@ -16,11 +16,11 @@ loop-i-init c =
 
 pub returns-then-not-ok : goal.returns-then-not-ok
 returns-then-not-ok c =
-    every_fails _ _ c.loop-i.i (omega arith) (cc (not-true c.test-ok.result c.if-not-ok.true))
+    every_fails _ _ c.loop-i.i (omega arith) (cc c.if-not-ok.true)
 
 pub loop-i-preserved : goal.loop-i-preserved
 loop-i-preserved c =
-    (search rules, every_more _ _ c.loop-i.invariant.1 (cc (not-false c.test-ok.result c.if-not-ok.false)))
+    (search rules, every_more _ _ c.loop-i.invariant.1 (cc c.if-not-ok.false))
 
 pub returns : goal.returns
 returns c =

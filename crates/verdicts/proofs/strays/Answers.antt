@@ -36,7 +36,7 @@ astray-a-requires c =
     record { within = c.requires.within; w_bound = rw c.field_at-w.ensures (c.requires.within.refs (field c.args.j c.loop-k.k) (a_field c.requires.j_bound (omega arith))) }
 
 pub returns-then-a : goal.returns-then-a
-unfolding strays astray
+unfolding strays on astray
 returns-then-a c =
     let told : let a = c.args in c.astray-a.result ≡ not (on a.s a.img.now a.j c.loop-k.k) = rw (← c.field_at-w.ensures) c.astray-a.ensures in
     let a = c.args in
@@ -48,13 +48,13 @@ loop-k-smaller c =
     omega arith
 
 pub loop-k-preserved : goal.loop-k-preserved
-unfolding astray
+unfolding astray on
 loop-k-preserved c =
     let told : let a = c.args in c.astray-a.result ≡ not (on a.s a.img.now a.j c.loop-k.k) = rw (← c.field_at-w.ensures) c.astray-a.ensures in
     (omega arith, every_more _ _ c.loop-k.invariant.1 (not-false _ (sym (told) ∙ c.if-a.false)))
 
 pub returns : goal.returns
-unfolding strays
+unfolding strays on
 returns c =
     let a = c.args in
     let four : c.loop-k.k ≡ 4 = omega arith in

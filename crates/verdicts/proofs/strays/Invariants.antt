@@ -13,7 +13,7 @@ use borrow.Author.Rules.{rules}
 use Rattle.verdicts.proofs.strays.Given as goal
 
 -- field k of a place leads to marked objects only
-pub on : ℕ → Image → ℕ → ℕ → Bool
+unfoldable pub on : ℕ → Image → ℕ → ℕ → Bool
 on S img j k = leads_on S img (field j k)
 
 abbrev pub invariant-loop-k : goal.invariant-loop-k

@@ -1,0 +1,22 @@
+use Rattle.locals.proofs.Owning.{slot_small, slot_most}
+use Rattle.collector.proofs.Bounds.{long_same}
+use Rattle.image.specs.Within.{Within}
+use Rattle.locals.specs.Slots.{SlotOf, settle_of}
+use Rattle.model.specs.Image.{Image}
+use Rattle.model.specs.Questions.{Bits}
+use Rattle.loops.proofs.Turns.{each_none, each_more, each_done}
+use Rattle.loops.specs.Loop.{each}
+use mathlib.Core.Path.{◌≡◌, ◌∙◌}
+use Prim.Native.Nat.{ℕ, ◌+◌, ◌*◌, ◌≤◌, ◌-◌}
+use native.Mathlib.Omega.{arith}
+use borrow.Author.Rules.{rules}
+use Rattle.locals.proofs.free.Given as goal
+
+abbrev pub settled : ℕ → ℕ → Bits → Image → ℕ → Image
+settled s t marks x i = settle_of s marks x (t * s + i)
+
+abbrev pub invariant-loop-k : goal.invariant-loop-k
+invariant-loop-k l = (l.k ≤ l.s) × (l.img ≡ each l.k (settled l.s l.t l.marks) l.initial.img) × Within l.p l.s l.img
+
+abbrev pub decreases-loop-k : goal.decreases-loop-k
+decreases-loop-k l = l.s - l.k

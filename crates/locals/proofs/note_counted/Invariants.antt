@@ -1,0 +1,15 @@
+use Rattle.todo.proofs.Noting.{more_none, more_then}
+use Rattle.todo.specs.Notes.{More}
+use Rattle.locals.specs.Slots.{named_one}
+use Rattle.loops.proofs.Turns.{each_none, each_more, each_done}
+use Rattle.loops.specs.Loop.{each}
+use mathlib.Core.Path.{◌≡◌, ◌∙◌}
+use Prim.Native.Nat.{◌*◌, ◌≤◌, ◌-◌}
+use borrow.Author.Rules.{rules}
+use Rattle.locals.proofs.note_counted.Given as goal
+
+abbrev pub invariant-loop-k : goal.invariant-loop-k
+invariant-loop-k l = (l.k ≤ l.s) × (l.marks ≡ each l.k (named_one l.s l.t l.img) l.initial.marks) × More (l.t * l.s) l.s l.initial.list l.m l.marks l.list l.end
+
+abbrev pub decreases-loop-k : goal.decreases-loop-k
+decreases-loop-k l = l.s - l.k

@@ -1,0 +1,22 @@
+-- `scripts::run::end_of` meets its contract. Assumes nothing.
+use borrow.Author.Tests.{not-true, not-false}
+use native.Mathlib.Omega.{arith}
+use Prim.Native.Nat.{◌-◌}
+use mathlib.Core.Path.{◌≡◌, sym, ◌∙◌}
+use lib.ListN.{length}
+use Rattle.scripts.specs.Runs.{end_of}
+use Rattle.scripts.proofs.Ends.{end_here, end_on, end_past}
+use borrow.Author.Rules.{rules}
+use Rattle.scripts.proofs.run.end_of.Goals as goal
+
+pub returns-then-not-goes_on : goal.returns-then-not-goes_on
+returns-then-not-goes_on c =
+    sym (c.loop-i.invariant ∙ end_here _ _ _ (omega arith) (sym c.goes_on.ensures ∙ c.if-not-goes_on.true))
+
+pub loop-i-preserved : goal.loop-i-preserved
+loop-i-preserved c =
+    c.loop-i.invariant ∙ end_on _ _ _ (omega arith) (sym c.goes_on.ensures ∙ c.if-not-goes_on.false)
+
+pub returns : goal.returns
+returns c =
+    sym (c.loop-i.invariant ∙ end_past _ _ _ (omega arith))

@@ -1,0 +1,13 @@
+use Rattle.kinds.specs.Names.{most_places}
+use Rattle.todo.proofs.Noting.{noted_most}
+use Rattle.todo.proofs.Leading.{Spreading, spreading_first, next_in, spreading_next, spreading_done}
+use Prim.Native.Nat.{◌-◌}
+use native.Mathlib.Omega.{arith}
+use borrow.Author.Rules.{rules}
+use Rattle.todo.proofs.spread.Given as goal
+
+abbrev pub invariant-loop-at : goal.invariant-loop-at
+invariant-loop-at l = Spreading l.s l.lo l.n l.img l.initial.marks l.marks l.list l.end l.at
+
+abbrev pub decreases-loop-at : goal.decreases-loop-at
+decreases-loop-at l = most_places - l.at
