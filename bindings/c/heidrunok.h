@@ -1,4 +1,4 @@
-/* The proved backup catalogue, for C99 and C++: link libheidrunok.a (`rt staticlib heidrunok`; bindings/README.md).
+/* The proved backup catalogue, for C99 and C++: link libheidrunok.a (`rt lib` in crates/heidrunok; bindings/README.md).
  *
  * Every call returns 0 where it is accepted, else the number of the refusal (1 to 19; heidrunok_refusal says it in words), and writes what it
  * answers through its last pointers. Refused, it writes zeros there, but for *extra: the position of the operation, counted from 1 (commit: 7,
