@@ -2,14 +2,11 @@
 use Prim.Native.Nat.{ℕ}
 use mathlib.Core.Path.{◌≡◌, sym}
 use lib.ListN.{length, replicate, length-replicate}
-use Rattle.shell.proofs.script_space.Statement.{statement}
-use Rattle.shell.proofs.script_space.Tie as tie
+use Rattle.shell.proofs.script_space.Goals as goal
 
 zeros : (n : ℕ) → n ≡ length {A = ℕ} (replicate n 0)
 zeros n = sym (length-replicate n 0)
 
-returns : tie.Need-returns
-returns c = zeros 1048577
-
-pub script-space-spec : {M : Type 1} → statement M
-script-space-spec = tie.close (tie.spec returns)
+pub returns : goal.returns
+returns c =
+    zeros 1048577
