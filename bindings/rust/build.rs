@@ -1,4 +1,4 @@
-//! Where the archive is: `HEIDRUNOK_LIB_DIR`, or target/staticlib of the repository that this crate stands in.
+//! Where the archive is: `HEIDRUNOK_LIB_DIR`, or crates/heidrunok/out of the repository that this crate stands in.
 use std::{env, path::PathBuf};
 
 fn main() {
@@ -6,12 +6,12 @@ fn main() {
     let os = env::var("CARGO_CFG_TARGET_OS").unwrap_or_default();
     let arch = env::var("CARGO_CFG_TARGET_ARCH").unwrap_or_default();
     assert!(os == "linux" && arch == "x86_64", "the archive is for x86-64 Linux, not for {arch} {os}");
-    let beside = || PathBuf::from(env::var_os("CARGO_MANIFEST_DIR").unwrap()).join("../../target/staticlib");
+    let beside = || PathBuf::from(env::var_os("CARGO_MANIFEST_DIR").unwrap()).join("../../crates/heidrunok/out");
     let dir = env::var_os("HEIDRUNOK_LIB_DIR").map_or_else(beside, PathBuf::from);
     let archive = dir.join("libheidrunok.a");
     assert!(
         archive.is_file(),
-        "no {}: run `rt staticlib heidrunok` in the repository, or set HEIDRUNOK_LIB_DIR",
+        "no {}: run `rt lib` in the repository's crates/heidrunok, or set HEIDRUNOK_LIB_DIR",
         archive.display()
     );
     println!("cargo:rerun-if-changed={}", archive.display());

@@ -42,8 +42,8 @@ function bare(line) {
 
 # What a line of code declares: its first word after keywords. Of the kit's libraries, what it imports.
 function declare(line, file,    n, i, part) {
-    if (line ~ /^ *(ghost )?use /) {
-        if (line ~ /use Rattle/) return
+    if (line ~ /^ *((pub|ghost|unfoldable) )*use /) {
+        if (match(line, /use Rattle\.[a-z0-9_]+/) && (substr(line, RSTART + 11, RLENGTH - 11) in crates)) return
         gsub(/[^-A-Za-z0-9_'\200-\377]+/, " ", line)
         n = split(line, part, " ")
         for (i = 1; i <= n; i++) name[part[i]] = 1
@@ -253,11 +253,11 @@ function document(line,    n, i, part, column, p) {
 }
 
 BEGIN {
-    keywords = "^(pub|pub\\(crate\\)|abbrev|unfoldable|data|record|module|fn|struct|enum|const|static|unsafe|extern \"C\"|extern|def|class|let|mut|#define|typedef) +"
+    keywords = "^(pub|pub\\(crate\\)|pattern|abbrev|unfoldable|opaque|data|record|module|mod|ghost|trait|type|fn|struct|enum|const|static|unsafe|extern \"C\"|extern|def|class|let|mut|#define|typedef) +"
     n = split("pub crate fn let mut const unsafe extern if else bool u8 u32 u64 usize", part, " ")
     for (i = 1; i <= n; i++) name[part[i]] = 1
     ending = "\\.(antt|rt|rs|c|h|py|md|txt|script|answers|log|report|look|edit|toml)$"
-    outside = "^(/|target/)"
+    outside = "^(/|target/|crates/[^/]*/out(/|$))"
     commands = "^(rt|cargo|cc|cp|git|timeout|tar|uname|report|\\./[a-z]+|bench/run|\\.ci/run)( |$)"
 }
 

@@ -47,13 +47,12 @@ module _ (at : ℕ) (xs log : List ℕ) where
       either true = refl
       either false = refl
 
-  pub put_done : (length xs ≡ 0 → ⊥) → at + length xs ≤ length log → (m : List ℕ) → m ≡ take (length xs) xs ++ drop (length xs) (mid_of at (length log - at) log)
-      → put Ok (put_mid at (length log - at) log m) ≡ put_at at xs log
+  pub put_done : (length xs ≡ 0 → ⊥) → at + length xs ≤ length log → (m : List ℕ) → m ≡ xs
+      → put Ok (put_mid at (at + length xs - at) log m) ≡ put_at at xs log
   unfolding put_at splice
   put_done some h m q =
-      let mid : mid_of at (length log - at) log ≡ drop at log = take_all (length log - at) (drop at log) (omega (arith, length-drop at log)) in
-      let post : post_of at (length log - at) log ≡ [] = drop_of_length-le (drop at log) {i = length log - at} (omega (arith, length-drop at log)) in
-      rw (lt-ltb 0 (length xs) (omega (arith, some)), le-leb (at + length xs) (length log) h, post, q, mid, take_all (length xs) xs (omega arith), append-nil, drop-drop)
+      let n : at + length xs - at ≡ length xs = omega arith in
+      rw (lt-ltb 0 (length xs) (omega (arith, some)), le-leb (at + length xs) (length log) h, n, q, drop-drop)
 
 -- `bytes`, where the place and the bytes are read
 pub put_from_lem : (line : List ℕ) (from : ℕ) (log : List ℕ) (at to : ℕ) → next_number line from ≡ Number at to → (room : ℕ) → most_bytes ≡ room → (xs : List ℕ) → xs ≡ bytes_of (listed_from room line to) → (p : Put) → p ≡ put_at at xs log → p ≡ put_from line from log

@@ -1,4 +1,4 @@
--- What a line of a script leaves of the desk, of the image, of the log buffer and of the words, and what it is answered.
+-- What a line of a script leaves of the desk, of the image and of the log buffer, and what it is answered.
 use Rattle.std.specs.Prelude.{ℕ, zero, suc, ◌+◌, ◌≤◌, Bool, true, false, cond, List, [], ◌∷◌, ◌++◌, ltb, leb, length, take, drop, set, replicate}
 use Rattle.kinds.specs.declared.Operation.{Operation}
 use Rattle.kinds.specs.declared.Single.TheVariants.{Open, Trace, Close, Local, Hold, Drop}
@@ -10,59 +10,43 @@ use Rattle.journal.specs.Recover.{Recovered as A-recovery, recover_of, byte_of}
 use Rattle.recovery.specs.declared.Recovery.{Recovery}
 use Rattle.recovery.specs.declared.Recovery.TheVariants.{Kept, Refused as NotKept}
 use Rattle.writer.specs.Write.{splice}
-use Rattle.catalogue.specs.Call.{Outcome, outcome, format_of, commit_of, open_of, trace_of, close_of, local_of, hold_of, drop_of, why_of}
+use Rattle.catalogue.specs.Call.{Outcome, outcome, format_of, commit_of, open_of, trace_of, close_of, local_of, hold_of, drop_of}
 use Rattle.scripts.specs.declared.command.Next.{Next}
 use Rattle.scripts.specs.declared.command.Next.TheVariants.{Number, Nothing as NoWord, Bad}
 use Rattle.scripts.specs.declared.order.Look.{Look as A_look}
-use Rattle.scripts.specs.declared.order.Look.TheVariants.{Read, Ask, Outlist, Digest, Words as Sum, Show, Log, Help}
+use Rattle.scripts.specs.declared.order.Look.TheVariants.{Read, Ask, Outlist, Digest, Show, Log, Help}
 use Rattle.scripts.specs.declared.order.Deed.{Deed as A-deed}
-use Rattle.scripts.specs.declared.order.Deed.TheVariants.{Word, Format, Commit, Single, Put as Put-word, Why, Recover, Look}
+use Rattle.scripts.specs.declared.order.Deed.TheVariants.{Word, Format, Commit, Single, Recover, Look}
 use Rattle.scripts.specs.declared.order.Order.{Order}
-use Rattle.scripts.specs.declared.order.Order.TheVariants.{Nothing, What, Image as Lend-image, Buffer as Lend-log, Words as Lend-words, Bytes, Wait, Deed}
+use Rattle.scripts.specs.declared.order.Order.TheVariants.{Nothing, What, Image as Lend-words, Buffer as Lend-bytes, Bytes, Wait, Deed}
 use Rattle.scripts.specs.Commands.{next_number}
 use Rattle.desk.specs.declared.Desk.{Desk}
 use Rattle.desk.specs.declared.Response.{Response}
-use Rattle.desk.specs.declared.Response.TheVariants.{Nothing as Unanswered, What as Asked-what, Ok, Waits, Done, Closed, Freed, Why as Explained, Recovered, Look as Seen}
+use Rattle.desk.specs.declared.Response.TheVariants.{Nothing as Unanswered, What as Asked-what, Ok, Waits, Done, Closed, Freed, Recovered, Look as Seen}
 use Rattle.desk.specs.declared.Turn.{Turn}
 
--- no more is lent of image, log buffer and words than there is
-pub record Lent (d : Desk) (img bs ws : List ℕ) : Type 0 where
-  pub image : d.image ≤ length img
-  pub log : d.log ≤ length bs
-  pub words : d.words ≤ length ws
+-- no more words and bytes are lent than there are
+pub record Lent (d : Desk) (img log : List ℕ) : Type 0 where
+  pub words : d.words ≤ length img
+  pub bytes : d.bytes ≤ length log
 
-abbrev pub desk : ℕ → ℕ → ℕ → ℕ → Desk
-desk m n w k = record { image = m; log = n; words = w; waits = k }
+abbrev pub desk : ℕ → ℕ → ℕ → Desk
+desk m n k = record { words = m; bytes = n; waits = k }
 
 abbrev pub turn : Desk → Response → Turn
 turn d s = record { desk = d; said = s }
 
--- an answer, and the image, the log buffer and the words that are left
-pub record Left (A : Type 0) : Type 0 where
-  pub answer : A
-  pub image : Image
-  pub log : List ℕ
-  pub words : List ℕ
+-- another form of the answer
+abbrev pub answered : {A B : Type 0} → (A → B) → Outcome A → Outcome B
+answered f o = outcome (f o.answer) o.image o.log
 
 module _ {A : Type 0} where
-  abbrev pub left : A → Image → List ℕ → List ℕ → Left A
-  left a img log ws = record { answer = a; image = img; log = log; words = ws }
+  -- on the words and bytes that are lent; the others stay
+  abbrev pub rejoined : Outcome A → List ℕ → List ℕ → Outcome A
+  rejoined o ws bs = outcome o.answer (o.image ++ ws) (o.log ++ bs)
 
-  -- a logged call's, beside words that stay
-  abbrev pub beside : Outcome A → List ℕ → Left A
-  beside o ws = left o.answer o.image o.log ws
-
-  -- on what is lent; the rest stays
-  abbrev pub rejoined : Left A → List ℕ → List ℕ → List ℕ → Left A
-  rejoined o is bs ws = left o.answer (o.image ++ is) (o.log ++ bs) (o.words ++ ws)
-
-  abbrev pub on_lent : Desk → (Image → List ℕ → List ℕ → Left A) → Image → List ℕ → List ℕ → Left A
-  on_lent d f img log ws =
-      rejoined (f (take d.image img) (take d.log log) (take d.words ws)) (drop d.image img) (drop d.log log) (drop d.words ws)
-
--- another form of the answer
-abbrev pub answered : {A B : Type 0} → (A → B) → Left A → Left B
-answered f o = left (f o.answer) o.image o.log o.words
+  abbrev pub on_lent : Desk → (Image → List ℕ → Outcome A) → Image → List ℕ → Outcome A
+  on_lent d f img log = rejoined (f (take d.words img) (take d.bytes log)) (drop d.words img) (drop d.bytes log)
 
 -- the answer of a recovery: the kept length, or the refusal with its byte
 abbrev pub keeping : Verdict → ℕ → ℕ → Recovery
@@ -85,8 +69,8 @@ abbrev pub put : Response → List ℕ → Put
 put s xs = record { said = s; list = xs }
 
 -- one word
-unfoldable pub put_word : ℕ → ℕ → List ℕ → Put
-put_word i v ws = cond (ltb i (length ws)) (put Ok (set ws i v)) (put Asked-what ws)
+unfoldable pub put_word : ℕ → ℕ → Image → Put
+put_word i v img = cond (ltb i (length img)) (put Ok (set img i v)) (put Asked-what img)
 
 -- `log` asks for more bytes than are lent
 abbrev pub past : A_look → ℕ → Bool
@@ -94,7 +78,6 @@ past (Read n) lent = false
 past (Ask n) lent = false
 past (Outlist p) lent = false
 past Digest lent = false
-past Sum lent = false
 past Show lent = false
 past (Log n) lent = ltb lent n
 past Help lent = false
@@ -104,20 +87,18 @@ unfoldable pub seen_for : A_look → ℕ → Response
 seen_for l lent = cond (past l lent) Asked-what (Seen l)
 
 -- A DEED, with n operations waiting
-abbrev pub deed_of : A-deed → List Operation → ℕ → Image → List ℕ → List ℕ → Left Response
-deed_of (Word i v) ops n img log ws = left (put_word i v img).said (put_word i v img).list log ws
-deed_of (Format p s at) ops n img log ws = answered Done (beside (format_of img p s log at) ws)
-deed_of (Commit at) ops n img log ws = answered Done (beside (commit_of img ops n log at) ws)
-deed_of (Single Open at) ops n img log ws = answered Done (beside (open_of img log at) ws)
-deed_of (Single (Trace p) at) ops n img log ws = answered Done (beside (trace_of img p log at) ws)
-deed_of (Single Close at) ops n img log ws = answered Closed (beside (close_of img log at) ws)
-deed_of (Single (Local p) at) ops n img log ws = answered Freed (beside (local_of img p log at) ws)
-deed_of (Single (Hold h o) at) ops n img log ws = answered Done (beside (hold_of img h o log at) ws)
-deed_of (Single (Drop h) at) ops n img log ws = answered Done (beside (drop_of img h log at) ws)
-deed_of (Put-word i v) ops n img log ws = left (put_word i v ws).said img log (put_word i v ws).list
-deed_of (Why o) ops n img log ws = left (Explained (why_of img o ws).answer) img log (why_of img o ws).words
-deed_of (Recover k) ops n img log ws = beside (recover_for k img log) ws
-deed_of (Look l) ops n img log ws = left (seen_for l (length log)) img log ws
+abbrev pub deed_of : A-deed → List Operation → ℕ → Image → List ℕ → Outcome Response
+deed_of (Word i v) ops n img log = outcome (put_word i v img).said (put_word i v img).list log
+deed_of (Format p s at) ops n img log = answered Done (format_of img p s log at)
+deed_of (Commit at) ops n img log = answered Done (commit_of img ops n log at)
+deed_of (Single Open at) ops n img log = answered Done (open_of img log at)
+deed_of (Single (Trace p) at) ops n img log = answered Done (trace_of img p log at)
+deed_of (Single Close at) ops n img log = answered Closed (close_of img log at)
+deed_of (Single (Local p) at) ops n img log = answered Freed (local_of img p log at)
+deed_of (Single (Hold h o) at) ops n img log = answered Done (hold_of img h o log at)
+deed_of (Single (Drop h) at) ops n img log = answered Done (drop_of img h log at)
+deed_of (Recover k) ops n img log = recover_for k img log
+deed_of (Look l) ops n img log = outcome (seen_for l (length log)) img log
 
 -- the bytes that stand in a line from a place on
 pub data Listed : Type 0 where
@@ -163,7 +144,7 @@ put_from line from log = putting (next_number line from) line log
 abbrev pub put_on : ℕ → List ℕ → ℕ → List ℕ → Put
 put_on n line from log = put (put_from line from (take n log)).said ((put_from line from (take n log)).list ++ drop n log)
 
--- what `image`, `buffer` and `words` answer, beside the words or bytes that are left: the first n become zeros, or bytes 46
+-- what `image` and `buffer` answer, beside the words or bytes that are left: the first n become zeros, or bytes 46
 pub record Lending : Type 0 where
   pub turn : Turn
   pub list : List ℕ
@@ -171,18 +152,14 @@ pub record Lending : Type 0 where
 abbrev pub lending : Turn → List ℕ → Lending
 lending t xs = record { turn = t; list = xs }
 
--- from the desk d to e, where there are so many
 unfoldable pub lend_first : ℕ → ℕ → Desk → Desk → List ℕ → Lending
 lend_first n x d e xs = cond (leb n (length xs)) (lending (turn e Ok) (replicate n x ++ drop n xs)) (lending (turn d Asked-what) xs)
 
-abbrev pub image_for : ℕ → Desk → Image → Lending
-image_for n d img = lend_first n 0 d (desk n d.log d.words d.waits) img
+abbrev pub words_for : ℕ → Desk → Image → Lending
+words_for n d img = lend_first n 0 d (desk n d.bytes d.waits) img
 
-abbrev pub log_for : ℕ → Desk → List ℕ → Lending
-log_for n d log = lend_first n 46 d (desk d.image n d.words d.waits) log
-
-abbrev pub words_for : ℕ → Desk → List ℕ → Lending
-words_for n d ws = lend_first n 0 d (desk d.image d.log n d.waits) ws
+abbrev pub bytes_for : ℕ → Desk → List ℕ → Lending
+bytes_for n d log = lend_first n 46 d (desk d.words n d.waits) log
 
 -- after a commit nothing waits
 abbrev pub is_commit : A-deed → Bool
@@ -190,21 +167,18 @@ is_commit (Word i v) = false
 is_commit (Format p s at) = false
 is_commit (Commit at) = true
 is_commit (Single a at) = false
-is_commit (Put-word i v) = false
-is_commit (Why o) = false
 is_commit (Recover n) = false
 is_commit (Look l) = false
 
 unfoldable pub after_deed : A-deed → Desk → Desk
-after_deed x d = cond (is_commit x) (desk d.image d.log d.words 0) d
+after_deed x d = cond (is_commit x) (desk d.words d.bytes 0) d
 
 -- A LINE: what it asks for, and its bytes
-unfoldable pub turn_of : Order → List ℕ → Desk → List Operation → Image → List ℕ → List ℕ → Left Turn
-turn_of Nothing line d ops img log ws = left (turn d Unanswered) img log ws
-turn_of What line d ops img log ws = left (turn d Asked-what) img log ws
-turn_of (Lend-image n) line d ops img log ws = left (image_for n d img).turn (image_for n d img).list log ws
-turn_of (Lend-log n) line d ops img log ws = left (log_for n d log).turn img (log_for n d log).list ws
-turn_of (Lend-words n) line d ops img log ws = left (words_for n d ws).turn img log (words_for n d ws).list
-turn_of (Bytes from) line d ops img log ws = left (turn d (put_on d.log line from log).said) img (put_on d.log line from log).list ws
-turn_of (Wait o) line d ops img log ws = left (turn (desk d.image d.log d.words (d.waits + 1)) (Waits (d.waits + 1))) img log ws
-turn_of (Deed x) line d ops img log ws = answered (turn (after_deed x d)) (on_lent d (deed_of x ops d.waits) img log ws)
+unfoldable pub turn_of : Order → List ℕ → Desk → List Operation → Image → List ℕ → Outcome Turn
+turn_of Nothing line d ops img log = outcome (turn d Unanswered) img log
+turn_of What line d ops img log = outcome (turn d Asked-what) img log
+turn_of (Lend-words n) line d ops img log = outcome (words_for n d img).turn (words_for n d img).list log
+turn_of (Lend-bytes n) line d ops img log = outcome (bytes_for n d log).turn img (bytes_for n d log).list
+turn_of (Bytes from) line d ops img log = outcome (turn d (put_on d.bytes line from log).said) img (put_on d.bytes line from log).list
+turn_of (Wait o) line d ops img log = outcome (turn (desk d.words d.bytes (d.waits + 1)) (Waits (d.waits + 1))) img log
+turn_of (Deed x) line d ops img log = answered (turn (after_deed x d)) (on_lent d (deed_of x ops d.waits) img log)

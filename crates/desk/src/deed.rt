@@ -1,18 +1,18 @@
 // The deeds on what is lent.
 ghost use Rattle.std.specs.Prelude.{◌≡◌};
 ghost use Rattle.catalogue.specs.Call.{outcome};
-ghost use Rattle.desk.specs.Desk.{left, deed_of, recover_for, past, seen_for, put, put_word};
+ghost use Rattle.desk.specs.Desk.{deed_of, recover_for, past, seen_for, put, put_word};
 
 use crate::Response;
 use kinds::{Operation, Single};
 use scripts::order::{Deed, Look};
 
-// One word, of the image or of those lent to `why`.
-fn put_word(i: usize, v: u32, words: &mut [u32]) -> Response
-    ensures { put result words.new ≡ put_word i v words.old }
+// One word of the image.
+fn word(i: usize, v: u32, img: &mut [u32]) -> Response
+    ensures { put result img.new ≡ put_word i v img.old }
 {
-    if i < words.len() {
-        words[i] = v;
+    if i < img.len() {
+        img[i] = v;
         return Response::Ok;
     }
     Response::What
@@ -37,7 +37,6 @@ fn past(l: Look, lent: usize) -> bool
         Look::Ask(_) => false,
         Look::Outlist(_) => false,
         Look::Digest => false,
-        Look::Words => false,
         Look::Show => false,
         Look::Log(n) => lent < n,
         Look::Help => false,
@@ -61,12 +60,11 @@ pub(crate) fn deed(
     n: usize,
     img: &mut [u32],
     log: &mut [u8],
-    words: &mut [u32],
 ) -> Response
-    ensures { left result img.new log.new words.new ≡ deed_of x ops n img.old log.old words.old }
+    ensures { outcome result img.new log.new ≡ deed_of x ops n img.old log.old }
 {
     match x {
-        Deed::Word(i, v) => put_word(i, v, img),
+        Deed::Word(i, v) => word(i, v, img),
         Deed::Format(p, s, at) => Response::Done(catalogue::format(img, p, s, log, at)),
         Deed::Commit(at) => Response::Done(catalogue::commit(img, ops, n, log, at)),
         Deed::Single(a, at) => match a {
@@ -77,8 +75,6 @@ pub(crate) fn deed(
             Single::Hold(h, o) => Response::Done(catalogue::hold(img, h, o, log, at)),
             Single::Drop(h) => Response::Done(catalogue::drop(img, h, log, at)),
         },
-        Deed::Put(i, v) => put_word(i, v, words),
-        Deed::Why(o) => Response::Why(catalogue::why(&*img, o, words)),
         Deed::Recover(k) => recover(k, img, &*log),
         Deed::Look(l) => seen(l, log.len()),
     }

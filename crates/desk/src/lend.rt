@@ -1,58 +1,27 @@
-// The commands that change by hand what is lent: image, buffer, words, bytes.
+// The commands that change by hand what is lent: image, buffer, bytes.
 ghost use Rattle.std.specs.Prelude.{◌≡◌, length, take, replicate};
-ghost use Rattle.io.specs.Counts.{IsPrefixLen};
-ghost use Rattle.desk.specs.Desk.{desk, lending, lend_first, listed_from, bytes_of, put, put_at, put_from};
+ghost use Rattle.std.specs.Counts.{IsPrefixLen};
+ghost use Rattle.desk.specs.Desk.{lending, words_for, bytes_for, listed_from, bytes_of, put, put_at, put_from};
 
 use crate::{Desk, Response, Turn};
 use scripts::command::{Next, next_number};
 
-impl Desk {
-    // So many words of image are lent.
-    pub(crate) fn with_image(self, n: usize) -> Desk
-        ensures { result ≡ desk n self.log self.words self.waits }
-    {
-        Desk {
-            image: n,
-            log: self.log,
-            words: self.words,
-            waits: self.waits,
-        }
-    }
-
-    // So many bytes of log are lent.
-    pub(crate) fn with_log(self, n: usize) -> Desk
-        ensures { result ≡ desk self.image n self.words self.waits }
-    {
-        Desk {
-            image: self.image,
-            log: n,
-            words: self.words,
-            waits: self.waits,
-        }
-    }
-
-    // So many words are lent to `why`.
-    pub(crate) fn with_words(self, n: usize) -> Desk
-        ensures { result ≡ desk self.image self.log n self.waits }
-    {
-        Desk {
-            image: self.image,
-            log: self.log,
-            words: n,
-            waits: self.waits,
-        }
-    }
-}
-
-// `image` and `words`: where there are n words, the first n become 0, and e is the desk.
-pub(crate) fn lend_words(n: usize, d: Desk, e: Desk, words: &mut [u32]) -> Turn
-    ensures { lending result words.new ≡ lend_first n 0 d e words.old }
+// `image`: the first n words are lent, and become 0.
+pub(crate) fn lend_words(n: usize, d: Desk, img: &mut [u32]) -> Turn
+    ensures { lending result img.new ≡ words_for n d img.old }
 {
-    if words.len() < n {
+    if img.len() < n {
         return d.says(Response::What);
     }
-    image::clear(&mut words[..n]);
-    e.says(Response::Ok)
+    image::clear(&mut img[..n]);
+    Turn {
+        desk: Desk {
+            words: n,
+            bytes: d.bytes,
+            waits: d.waits,
+        },
+        said: Response::Ok,
+    }
 }
 
 // Bytes 46.
@@ -66,15 +35,22 @@ fn dot(bytes: &mut [u8])
     }
 }
 
-// `buffer`: where there are n bytes, the first n become 46, and e is the desk.
-pub(crate) fn lend_bytes(n: usize, d: Desk, e: Desk, log: &mut [u8]) -> Turn
-    ensures { lending result log.new ≡ lend_first n 46 d e log.old }
+// `buffer`: the first n bytes are lent, and become 46.
+pub(crate) fn lend_bytes(n: usize, d: Desk, log: &mut [u8]) -> Turn
+    ensures { lending result log.new ≡ bytes_for n d log.old }
 {
     if log.len() < n {
         return d.says(Response::What);
     }
     dot(&mut log[..n]);
-    e.says(Response::Ok)
+    Turn {
+        desk: Desk {
+            words: d.words,
+            bytes: n,
+            waits: d.waits,
+        },
+        said: Response::Ok,
+    }
 }
 
 // Room for the bytes of a line: as many as a log buffer has.
@@ -123,7 +99,7 @@ fn put_at(at: usize, list: &[u8], log: &mut [u8]) -> Response
     if log.len() - at < list.len() {
         return Response::What;
     }
-    bytes::copy(list, &mut log[at..]);
+    log[at..at + list.len()].copy_from_slice(list);
     Response::Ok
 }
 

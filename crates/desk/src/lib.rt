@@ -1,26 +1,26 @@
-// The desk on which a script works: a lent image, a lent log buffer, words lent to `why` and a waiting transaction; what each line leaves of them,
-// and what it is answered. `step` is proved equal to `turn_of` (specs/Desk.antt): the catalogue's calls, recovery and the commands image, word,
-// buffer, bytes, words and put change what is lent, each as its definition says, and nothing else does; what is not lent stays as it is.
+// The desk on which a script works: a lent image, a lent log buffer and a waiting transaction; what each line leaves of them, and what it is
+// answered. `step` is proved equal to `turn_of` (specs/Desk.antt): the catalogue's calls, recovery and the commands image, word, buffer and
+// bytes change the image and the log buffer, each as its definition says, and nothing else does; what is not lent stays as it is.
 mod deed;
 mod lend;
 
 ghost use Rattle.std.specs.Prelude.{◌+◌, ◌≤◌, ◌<◌, ◌^◌, ◌≡◌, length};
+ghost use Rattle.catalogue.specs.Call.{outcome};
 ghost use Rattle.desk.specs.declared.Response.TheVariants.{Waits};
-ghost use Rattle.desk.specs.Desk.{Lent, desk, turn, left, on_lent, deed_of, put, put_on, is_commit, after_deed, turn_of};
+ghost use Rattle.desk.specs.Desk.{Lent, desk, turn, on_lent, deed_of, put, put_on, is_commit, after_deed, turn_of};
 
 use crate::deed::deed;
 use crate::lend::{lend_bytes, lend_words, put_bytes};
 use catalogue::{Answer, Closing, Freeing};
-use kinds::{Operation, Reason};
+use kinds::Operation;
 use recovery::Recovery;
 use scripts::order::{Deed, Look, Order};
 
-// How many words of image, bytes of log and words for `why` are lent, and how many operations wait.
+// How many words and bytes are lent, and how many operations wait.
 #[derive(Clone, Copy)]
 pub struct Desk {
-    pub image: usize,
-    pub log: usize,
     pub words: usize,
+    pub bytes: usize,
     pub waits: usize,
 }
 
@@ -35,8 +35,6 @@ pub enum Response {
     Done(Answer),
     Closed(Closing),
     Freed(Freeing),
-    // The chain itself stands in the lent words.
-    Why(Reason),
     Recovered(Recovery),
     // What is seen there.
     Look(Look),
@@ -52,32 +50,19 @@ pub struct Turn {
 impl Desk {
     // Nothing is lent, and nothing waits.
     pub fn new() -> Desk
-        ensures { result ≡ desk 0 0 0 0 }
+        ensures { result ≡ desk 0 0 0 }
     {
         Desk::lent(0, 0)
     }
 
-    // So many words of image and bytes of log are lent, and nothing waits.
-    pub fn lent(image: usize, log: usize) -> Desk
-        ensures { result ≡ desk image log 0 0 }
+    // So many words and bytes are lent, and nothing waits.
+    pub fn lent(words: usize, bytes: usize) -> Desk
+        ensures { result ≡ desk words bytes 0 }
     {
         Desk {
-            image: image,
-            log: log,
-            words: 0,
+            words: words,
+            bytes: bytes,
             waits: 0,
-        }
-    }
-
-    // So many operations wait.
-    fn with_waits(self, n: usize) -> Desk
-        ensures { result ≡ desk self.image self.log self.words n }
-    {
-        Desk {
-            image: self.image,
-            log: self.log,
-            words: self.words,
-            waits: n,
         }
     }
 
@@ -86,7 +71,11 @@ impl Desk {
         ensures { result ≡ after_deed x self }
     {
         if is_commit(x) {
-            return self.with_waits(0);
+            return Desk {
+                words: self.words,
+                bytes: self.bytes,
+                waits: 0,
+            };
         }
         self
     }
@@ -94,10 +83,17 @@ impl Desk {
     // One operation more waits.
     fn waiting(self) -> Turn
         requires { self.waits + 1 < 2 ^ 64 }
-        ensures { result ≡ turn (desk self.image self.log self.words (self.waits + 1)) (Waits (self.waits + 1)) }
+        ensures { result ≡ turn (desk self.words self.bytes (self.waits + 1)) (Waits (self.waits + 1)) }
     {
         let n = self.waits + 1;
-        self.with_waits(n).says(Response::Waits(n))
+        Turn {
+            desk: Desk {
+                words: self.words,
+                bytes: self.bytes,
+                waits: n,
+            },
+            said: Response::Waits(n),
+        }
     }
 
     // The desk as it is, and an answer.
@@ -119,8 +115,6 @@ fn is_commit(x: Deed) -> bool
         Deed::Format(_, _, _) => false,
         Deed::Commit(_) => true,
         Deed::Single(_, _) => false,
-        Deed::Put(_, _) => false,
-        Deed::Why(_) => false,
         Deed::Recover(_) => false,
         Deed::Look(_) => false,
     }
@@ -133,22 +127,13 @@ fn deed_on(
     ops: [Operation; Operation::LIMIT],
     img: &mut [u32],
     log: &mut [u8],
-    words: &mut [u32],
 ) -> Response
-    requires { Lent d img.old log.old words.old }
-    ensures { left result img.new log.new words.new ≡ on_lent d (deed_of x ops d.waits) img.old log.old words.old }
+    requires { Lent d img.old log.old }
+    ensures { outcome result img.new log.new ≡ on_lent d (deed_of x ops d.waits) img.old log.old }
 {
-    let m = d.image;
-    let n = d.log;
-    let w = d.words;
-    deed(
-        x,
-        ops,
-        d.waits,
-        &mut img[..m],
-        &mut log[..n],
-        &mut words[..w],
-    )
+    let m = d.words;
+    let n = d.bytes;
+    deed(x, ops, d.waits, &mut img[..m], &mut log[..n])
 }
 
 // `bytes` on what is lent.
@@ -167,20 +152,18 @@ pub fn step(
     ops: [Operation; Operation::LIMIT],
     img: &mut [u32],
     log: &mut [u8],
-    words: &mut [u32],
 ) -> Turn
-    requires lent { Lent d img.old log.old words.old }
+    requires lent { Lent d img.old log.old }
     requires waits_bound { d.waits + 1 < 2 ^ 64 }
-    ensures { left result img.new log.new words.new ≡ turn_of o line.now d ops img.old log.old words.old }
+    ensures { outcome result img.new log.new ≡ turn_of o line.now d ops img.old log.old }
 {
     match o {
         Order::Nothing => d.says(Response::Nothing),
         Order::What => d.says(Response::What),
-        Order::Image(n) => lend_words(n, d, d.with_image(n), img),
-        Order::Buffer(n) => lend_bytes(n, d, d.with_log(n), log),
-        Order::Words(n) => lend_words(n, d, d.with_words(n), words),
-        Order::Bytes(from) => d.says(bytes_on(line, from, d.log, log)),
+        Order::Image(n) => lend_words(n, d, img),
+        Order::Buffer(n) => lend_bytes(n, d, log),
+        Order::Bytes(from) => d.says(bytes_on(line, from, d.bytes, log)),
         Order::Wait(_) => d.waiting(),
-        Order::Deed(x) => d.after(x).says(deed_on(x, d, ops, img, log, words)),
+        Order::Deed(x) => d.after(x).says(deed_on(x, d, ops, img, log)),
     }
 }

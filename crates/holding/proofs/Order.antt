@@ -37,7 +37,7 @@ upto_both {l} {m} p q = go l m p q
     go (a ∷ l) [] p q = absurd (firsts p)
     go (a ∷ l) (b ∷ m) p q =
         elim (firsts p) [
-            inl h ↦ elim (firsts q) [ inl k ↦ absurd (omega arith) | inr k ↦ absurd (omega (arith, k.0)) ]
+          | inl h ↦ elim (firsts q) [ inl k ↦ absurd (omega arith) | inr k ↦ absurd (omega (arith, k.0)) ]
           | inr h ↦ elim (firsts q) [ inl k ↦ absurd (omega (arith, h.0)) | inr k ↦ rw (h.0, go l m h.1 k.1) ]
         ]
 

@@ -1,14 +1,18 @@
 -- Laws of the loop that reads: it stays within the lent bytes, and each turn leaves less to do.
 use Prim.Native.Nat.{ℕ, suc, ◌-◌, ◌≤◌, ◌<◌}
 use native.Mathlib.Omega.{arith}
-use mathlib.Core.Path.{◌≡◌}
+use mathlib.Core.Path.{◌≡◌, sym}
+use lib.Seq.{length-take-le}
 use mathlib.Core.List.{List}
 use lib.ListN.{length}
-use Rattle.io.specs.Counts.{IsPrefixLen}
-use Rattle.io.proofs.Counting.{prefix_len_of_le}
+use Rattle.std.specs.Counts.{IsPrefixLen}
 use Rattle.input.specs.declared.Got.{Got}
 use Rattle.input.specs.declared.Got.TheVariants.{More, Ended, Failed}
 use Rattle.input.specs.Input.{outcome, Stands, Filled}
+
+-- so many bytes are there
+prefix_len_of_le : (n : ℕ) (bytes : List ℕ) → n ≤ length bytes → IsPrefixLen n bytes
+prefix_len_of_le n bytes h = (h, sym (length-take-le n bytes h))
 
 stands_filled : (done : ℕ) (bytes : List ℕ) (got : Got) → done ≤ length bytes → Stands done (length bytes) got → Filled (outcome got) bytes
 unfolding outcome

@@ -1,10 +1,20 @@
--- What the answers of C's `read` make of a reading.
-use Rattle.std.specs.Prelude.{ℕ, ◌+◌, ◌≤◌, ◌<◌, ◌≡◌, cond, List, [], ◌∷◌, eqb, ℤ, pos, negsuc}
-use Rattle.io.specs.Counts.{IsPrefixLen}
+-- What the answers of `read` make of a reading.
+use Rattle.std.specs.Prelude.{ℕ, ◌+◌, ◌≤◌, ◌<◌, ◌≡◌, cond, List, [], ◌∷◌, eqb, ℤ, pos, negsuc, Result, Ok, Err}
+use Rattle.std.specs.Counts.{IsPrefixLen}
 use Rattle.input.specs.declared.Got.{Got}
 use Rattle.input.specs.declared.Got.TheVariants.{More, Ended, Failed}
 use Rattle.input.specs.declared.Input.{Input}
 use Rattle.input.specs.declared.Input.TheVariants.{Whole, Failed as NoInput}
+
+-- an answer of std's `read` as C's: how many bytes it moved, or -1
+abbrev pub answer_of : {E : Type 0} → Result ℕ E → ℤ
+answer_of (Ok k) = pos k
+answer_of (Err e) = negsuc 0
+
+-- what a call that is handed n bytes may answer: -1, or how many bytes it moved, at most n
+abbrev pub Moved : ℕ → ℤ → Type 0
+Moved n (pos k) = k ≤ n
+Moved n (negsuc k) = k ≡ 0
 
 -- what an answer makes of `done` bytes read so far: a negative one is a failed read, 0 the end of the input
 unfoldable pub after_of : ℕ → ℤ → Got

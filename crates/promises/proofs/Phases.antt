@@ -138,9 +138,9 @@ module _ (P S : ℕ) (good : in_limits P S ≡ true) where
 
   by_calls : {acts : List Act} {y z : Image} {ps : List ℕ} → Run P S (blank P S) acts y → ActsLowestFirst P S y ps z → Called y ps z
   by_calls {acts} r (none_left e) = record { order = []; as_many = refl; lowest_first = all_clean (none_is r e); acts = acts; run = r }
-  by_calls r (traced {y = y} {z = z} ne j rest) =
+  by_calls {acts} r (traced {y = y} {z = z} ne j rest) =
       let p : Partition = partition (lowest P y) in
-      let c = by_calls (acted (single (Trace p)) r j) rest in
+      let c = by_calls {acts = single (Trace (partition (lowest P y))) ∷ acts} (acted (single (Trace p)) r j) rest in
       record {
         order = p ∷ c.order;
         as_many = ap (λ (n : ℕ). suc n) c.as_many;

@@ -3,9 +3,8 @@ use Prim.Native.Nat.{ℕ, zero, suc, ◌+◌, ◌-◌, ◌≤◌, ◌<◌}
 use native.Mathlib.Omega.{arith}
 use mathlib.Core.Path.{◌≡◌, refl, sym, ap, subst, ◌∙◌}
 use mathlib.Core.Logic.{⊎_elim}
-use mathlib.Core.Bool.{Bool, true, false, cond}
+use mathlib.Core.Bool.{true, false}
 use mathlib.Core.List.{List}
-use lib.Dec.{eqb}
 use lib.ListN.{length, get_or}
 use borrow.Author.Tests.{eq-eqb, ne_eqb}
 use Rattle.loops.proofs.Tests.{lt_or_ge}
@@ -15,13 +14,13 @@ use Rattle.scripts.specs.declared.run.Run.TheVariants.{Gap, Word}
 use Rattle.scripts.specs.declared.number.Parsed.{Parsed}
 use Rattle.scripts.specs.declared.command.Call.{Call as A-call}
 use Rattle.scripts.specs.declared.command.Command.{Command}
-use Rattle.scripts.specs.declared.command.Command.TheVariants.{Nothing as NoCommand, Bytes, Digest, What}
+use Rattle.scripts.specs.declared.command.Command.TheVariants.{Nothing as NoCommand, Bytes, What}
 use Rattle.scripts.specs.declared.command.Next.{Next}
 use Rattle.scripts.specs.declared.command.Next.TheVariants.{Number, Nothing, Bad}
 use Rattle.scripts.specs.Runs.{end_of, word_at, text_of}
-use Rattle.scripts.specs.Numbers.{number_of, coded, keyword_of}
+use Rattle.scripts.specs.Numbers.{number_of, keyword_of}
 use Rattle.scripts.specs.Table.{bytes_text}
-use Rattle.scripts.specs.Commands.{most_numbers, begun, pushed, complete, none, found, next_number, numbers_from, last_keyword, behind, worded, command_of}
+use Rattle.scripts.specs.Commands.{most_numbers, begun, pushed, complete, none, found, next_number, numbers_from, worded, command_of}
 use Rattle.scripts.proofs.Ends.{end_past, end_after, end_within}
 
 -- a word stands within its line
@@ -61,26 +60,6 @@ module _ (line : List ℕ) (at : ℕ) (w : Span) (is : w ≡ word_at line at) wh
   pub next_found : (w.from ≡ w.to → ⊥) → (p : Parsed) → p ≡ number_of (text_of line w) → found p w.to ≡ next_number line at
   unfolding next_number
   next_found some p e = rw (some_word some, ← is, e)
-
-  pub last_none : w.from ≡ w.to → 0 ≡ last_keyword line at
-  unfolding last_keyword keyword_of coded
-  last_none e =
-      let empty : w.to - w.from ≡ 0 = omega arith in
-      rw (← is, empty) (either (none (word_at line w.to)))
-    where
-      either : (b : Bool) → ◌≡◌ {A = ℕ} 0 (cond b 0 0)
-      either true = refl
-      either false = refl
-
-  -- and of the next word from its end on
-  module _ (m : Span) (after : m ≡ word_at line w.to) where
-    pub last_found : m.from ≡ m.to → (k : ℕ) → k ≡ keyword_of (text_of line w) → k ≡ last_keyword line at
-    unfolding last_keyword
-    last_found e k q = rw (← is, ← after, eq-eqb _ _ e) q
-
-    pub last_more : (m.from ≡ m.to → ⊥) → 0 ≡ last_keyword line at
-    unfolding last_keyword
-    last_more ne = rw (← is, ← after, ne_eqb _ _ ne)
 
 -- the loop over a command's numbers: the whole is the rest from here
 pub record Reading (line : List ℕ) (at word : ℕ) (k : A-call) (i : ℕ) : Type 0 where
@@ -163,13 +142,6 @@ module _ (line : List ℕ) (w : Span) (is : w ≡ word_at line 0) where
     pub command_bytes : (get_or line w.from 0 ≡ 35 → ⊥) → (k : ℕ) → k ≡ keyword_of (text_of line w) → k ≡ (code 0 bytes_text) → Bytes w.to ≡ command_of line
     command_bytes ne k e h = rw (eq-eqb k (code 0 bytes_text) h) at (command_worded ne k e)
 
-    -- of a keyword that is not `bytes`
-    module _ (ne : get_or line w.from 0 ≡ 35 → ⊥) (k : ℕ) (e : k ≡ keyword_of (text_of line w)) (h : k ≡ (code 0 bytes_text) → ⊥) (l : ℕ) (f : l ≡ behind line w.to k) where
-      others : cond (eqb l 0) (numbers_from most_numbers line w.to (begun k)) (Digest l) ≡ command_of line
-      others = rw f (rw (ne_eqb k (code 0 bytes_text) h) at (command_worded ne k e))
-
-      pub command_numbers : l ≡ 0 → (c : Command) → c ≡ numbers_from most_numbers line w.to (begun k) → c ≡ command_of line
-      command_numbers z c q = q ∙ (rw (eq-eqb l 0 z) at others)
-
-      pub command_digest : (l ≡ 0 → ⊥) → Digest l ≡ command_of line
-      command_digest z = rw (ne_eqb l 0 z) at others
+    pub command_numbers : (get_or line w.from 0 ≡ 35 → ⊥) → (k : ℕ) → k ≡ keyword_of (text_of line w) → (k ≡ (code 0 bytes_text) → ⊥)
+        → (c : Command) → c ≡ numbers_from most_numbers line w.to (begun k) → c ≡ command_of line
+    command_numbers ne k e h c f = f ∙ (rw (ne_eqb k (code 0 bytes_text) h) at (command_worded ne k e))

@@ -3,4 +3,3 @@ pub mod Numbers
 pub mod Keywords
 pub mod Rows
 pub mod Commands
-pub mod Answers

@@ -9,12 +9,12 @@ use Rattle.scripts.specs.declared.number.Parsed.{Parsed}
 use Rattle.scripts.specs.declared.number.Parsed.TheVariants.{Is, Not}
 use Rattle.scripts.specs.declared.command.Call.{Call as A-call}
 use Rattle.scripts.specs.declared.command.Command.{Command}
-use Rattle.scripts.specs.declared.command.Command.TheVariants.{Nothing as NoCommand, Bytes, Digest, Call, What}
+use Rattle.scripts.specs.declared.command.Command.TheVariants.{Nothing as NoCommand, Bytes, Call, What}
 use Rattle.scripts.specs.declared.command.Next.{Next}
 use Rattle.scripts.specs.declared.command.Next.TheVariants.{Number, Nothing, Bad}
 use Rattle.scripts.specs.Runs.{word_at, text_of}
 use Rattle.scripts.specs.Numbers.{number_of, keyword_of}
-use Rattle.scripts.specs.Table.{takes, digest_text, bytes_text}
+use Rattle.scripts.specs.Table.{takes, bytes_text}
 
 -- no command has more numbers
 abbrev pub most_numbers : ℕ
@@ -56,19 +56,9 @@ unfoldable pub numbers_from : ℕ → List ℕ → ℕ → A-call → Command
 numbers_from zero line at k = onwards (next_number line at) (complete k) (λ v to. What)
 numbers_from (suc n) line at k = onwards (next_number line at) (complete k) (λ v to. numbers_from n line to (pushed k v))
 
--- the keyword that is the one word of a line from a place on; 0 where there is none, or more words stand there
-unfoldable pub last_keyword : List ℕ → ℕ → ℕ
-last_keyword line at = cond (none (word_at line (word_at line at).to)) (keyword_of (text_of line (word_at line at))) 0
-
--- the keyword that stands behind a keyword: `digest` alone may have one
-unfoldable pub behind : List ℕ → ℕ → ℕ → ℕ
-behind line to w = cond (eqb w (code 0 digest_text)) (last_keyword line to) 0
-
 -- of a line whose first word is no remark
 abbrev pub worded : List ℕ → ℕ → ℕ → Command
-worded line to w =
-    cond (eqb w (code 0 bytes_text)) (Bytes to)
-    (cond (eqb (behind line to w) 0) (numbers_from most_numbers line to (begun w)) (Digest (behind line to w)))
+worded line to w = cond (eqb w (code 0 bytes_text)) (Bytes to) (numbers_from most_numbers line to (begun w))
 
 -- a line without a word, or whose first word begins with #, is nothing
 unfoldable pub command_of : List ℕ → Command

@@ -1,17 +1,15 @@
 -- What a line of the script asks for.
-use Rattle.std.specs.Prelude.{ℕ, cond, eqb}
 use Rattle.lines.specs.declared.line.Line.{Line}
 use Rattle.lines.specs.declared.line.Line.TheVariants.{Heading, Operation, End, Single, Bad}
-use Rattle.lines.specs.Words.{code, of_row}
+use Rattle.lines.specs.Words.{of_row}
 use Rattle.scripts.specs.declared.command.Call.{Call as A-call}
 use Rattle.scripts.specs.declared.command.Command.{Command}
-use Rattle.scripts.specs.declared.command.Command.TheVariants.{Nothing as NoCommand, Bytes as SomeBytes, Digest, Call, What as NoShape}
-use Rattle.scripts.specs.declared.order.Look.TheVariants.{Words}
-use Rattle.scripts.specs.declared.order.Deed.TheVariants.{Single as SingleDeed, Look}
+use Rattle.scripts.specs.declared.command.Command.TheVariants.{Nothing as NoCommand, Bytes as SomeBytes, Call, What as NoShape}
+use Rattle.scripts.specs.declared.order.Deed.TheVariants.{Single as SingleDeed}
 use Rattle.scripts.specs.declared.order.Order.{Order}
 use Rattle.scripts.specs.declared.order.Order.TheVariants.{Nothing, What, Bytes, Wait, Deed}
 use Rattle.scripts.specs.Commands.{line_of, shorter_of}
-use Rattle.scripts.specs.Table.{words_text, rows}
+use Rattle.scripts.specs.Table.{rows}
 
 -- what a keyword that is none of the log's asks for. The numbers of a call end in e
 unfoldable pub keyed : A-call → Order
@@ -36,13 +34,8 @@ ordered k Bad = acted k (shorter_of k)
 unfoldable pub called : A-call → Order
 called k = ordered k (line_of k)
 
--- `digest` and a keyword behind it: `digest words`
-unfoldable pub digested : ℕ → Order
-digested w = cond (eqb w (code 0 words_text)) (Deed (Look Words)) What
-
 unfoldable pub order_of : Command → Order
 order_of NoCommand = Nothing
 order_of NoShape = What
 order_of (SomeBytes from) = Bytes from
-order_of (Digest w) = digested w
 order_of (Call k) = called k

@@ -5,9 +5,9 @@ use Rattle.lines.specs.declared.line.Line.{Line}
 use Rattle.lines.specs.declared.line.Line.TheVariants.{Heading, Operation, End, Single, Bad}
 use Rattle.lines.specs.Words.{Row, row, of_row, all_rows, following, line_by}
 use Rattle.scripts.specs.declared.order.Look.TheVariants.{Read, Ask, Outlist, Digest, Show, Log, Help}
-use Rattle.scripts.specs.declared.order.Deed.TheVariants.{Word, Format, Commit, Put, Why, Recover, Look}
+use Rattle.scripts.specs.declared.order.Deed.TheVariants.{Word, Format, Commit, Recover, Look}
 use Rattle.scripts.specs.declared.order.Order.{Order}
-use Rattle.scripts.specs.declared.order.Order.TheVariants.{Image, Buffer, Words, Deed}
+use Rattle.scripts.specs.declared.order.Order.TheVariants.{Image, Buffer, Deed}
 
 -- the bytes of each keyword that is none of the log's
 abbrev pub image_text : List ℕ
@@ -34,15 +34,6 @@ ask_text = 97 ∷ 115 ∷ 107 ∷ []
 abbrev pub outlist_text : List ℕ
 outlist_text = 111 ∷ 117 ∷ 116 ∷ 108 ∷ 105 ∷ 115 ∷ 116 ∷ []
 
-abbrev pub words_text : List ℕ
-words_text = 119 ∷ 111 ∷ 114 ∷ 100 ∷ 115 ∷ []
-
-abbrev pub put_text : List ℕ
-put_text = 112 ∷ 117 ∷ 116 ∷ []
-
-abbrev pub why_text : List ℕ
-why_text = 119 ∷ 104 ∷ 121 ∷ []
-
 abbrev pub recover_text : List ℕ
 recover_text = 114 ∷ 101 ∷ 99 ∷ 111 ∷ 118 ∷ 101 ∷ 114 ∷ []
 
@@ -58,7 +49,7 @@ log_text = 108 ∷ 111 ∷ 103 ∷ []
 abbrev pub help_text : List ℕ
 help_text = 104 ∷ 101 ∷ 108 ∷ 112 ∷ []
 
--- the commands that are none of the log's lines; `bytes`, which any number may follow, and `digest words` stand apart
+-- the commands that are none of the log's lines; `bytes`, which any number may follow, stands apart
 unfoldable pub rows : List (Row Order)
 rows =
     row image_text 1 (λ a b c d e. Image e)
@@ -69,9 +60,6 @@ rows =
     ∷ row read_text 2 (λ a b c d e. Deed (Look (Read (named d e))))
     ∷ row ask_text 2 (λ a b c d e. Deed (Look (Ask (named d e))))
     ∷ row outlist_text 1 (λ a b c d e. Deed (Look (Outlist (partition e))))
-    ∷ row words_text 1 (λ a b c d e. Words e)
-    ∷ row put_text 2 (λ a b c d e. Deed (Put d e))
-    ∷ row why_text 2 (λ a b c d e. Deed (Why (named d e)))
     ∷ row recover_text 1 (λ a b c d e. Deed (Recover e))
     ∷ row digest_text 0 (λ a b c d e. Deed (Look Digest))
     ∷ row show_text 0 (λ a b c d e. Deed (Look Show))

@@ -1,10 +1,10 @@
 // The command that a line of the script is.
 ghost use Rattle.std.specs.Prelude.{◌≡◌, ◌≤◌};
-ghost use Rattle.scripts.specs.Commands.{pushed, complete, most_numbers, begun, next_number, numbers_from, last_keyword, behind, command_of, line_of, shorter_of};
+ghost use Rattle.scripts.specs.Commands.{pushed, complete, most_numbers, begun, next_number, numbers_from, command_of, line_of, shorter_of};
 
 use crate::number::{Parsed, keyword, number};
 use crate::run::word_at;
-use crate::table::{BYTES, DIGEST, takes};
+use crate::table::{BYTES, takes};
 use lines::line::{Line, finish};
 use lines::machine::{Read, Scan};
 
@@ -27,8 +27,6 @@ pub enum Command {
     Nothing,
     // `bytes`, and the place after that word.
     Bytes(usize),
-    // `digest` and one keyword behind it.
-    Digest(u64),
     // Any other command, with as many numbers as it takes.
     Call(Call),
     What,
@@ -159,33 +157,6 @@ fn numbers(line: &[u8], at: usize, word: u64) -> Command
     }
 }
 
-// The keyword that is the one word of a line from a place on; 0 where there is none, or more words stand there.
-fn last_keyword(line: &[u8], at: usize) -> u64
-    ensures { result ≡ last_keyword line.now at }
-{
-    let w = word_at(line, at);
-    let from = w.from;
-    let to = w.to;
-    if from == to {
-        return 0;
-    }
-    let more = word_at(line, to);
-    if more.from == more.to {
-        return keyword(&line[from..to]);
-    }
-    0
-}
-
-// The keyword that stands behind a keyword: `digest` alone may have one.
-fn behind(line: &[u8], at: usize, word: u64) -> u64
-    ensures { result ≡ behind line.now at word }
-{
-    if word == DIGEST {
-        return last_keyword(line, at);
-    }
-    0
-}
-
 // The command that a line is; its bytes are given without the line end.
 pub fn parse(line: &[u8]) -> Command
     ensures { result ≡ command_of line.now }
@@ -203,9 +174,5 @@ pub fn parse(line: &[u8]) -> Command
     if k == BYTES {
         return Command::Bytes(to);
     }
-    let other = behind(line, to, k);
-    if other == 0 {
-        return numbers(line, to, k);
-    }
-    Command::Digest(other)
+    numbers(line, to, k)
 }

@@ -1,31 +1,28 @@
 // What a line of the script asks for.
 ghost use Rattle.std.specs.Prelude.{◌≡◌};
 ghost use Rattle.scripts.specs.Commands.{shorter_of};
-ghost use Rattle.scripts.specs.Orders.{keyed, acted, called, digested, order_of};
+ghost use Rattle.scripts.specs.Orders.{keyed, acted, called, order_of};
 
 use crate::command::{Call, Command};
 use crate::table::{
-    ASK, BUFFER, COMMIT, DIGEST, FORMAT, HELP, IMAGE, LOG, OUTLIST, PUT, READ, RECOVER, SHOW, WHY,
-    WORD, WORDS,
+    ASK, BUFFER, COMMIT, DIGEST, FORMAT, HELP, IMAGE, LOG, OUTLIST, READ, RECOVER, SHOW, WORD,
 };
 use kinds::{Name, Operation, Partition, Single, named};
 use lines::line::Line;
 
-// What looks at what is lent, and changes nothing.
+// What looks at the lent image and log buffer, and changes neither.
 #[derive(Clone, Copy)]
 pub enum Look {
     Read(Name),
     Ask(Name),
     Outlist(Partition),
     Digest,
-    // The digest of the lent words.
-    Words,
     Show,
     Log(usize),
     Help,
 }
 
-// What is done on the lent image, log buffer and words.
+// What is done on the lent image and log buffer.
 #[derive(Clone, Copy)]
 pub enum Deed {
     Word(usize, u32),
@@ -33,14 +30,11 @@ pub enum Deed {
     Commit(usize),
     // An act whose record is a single line, at a place of the log.
     Single(Single, usize),
-    // One of the lent words.
-    Put(usize, u32),
-    Why(Name),
     Recover(usize),
     Look(Look),
 }
 
-// What a line asks for: to lend so many words of image, bytes of log or words, to put the bytes that stand from a place of the line on, to let an operation wait, or
+// What a line asks for: to lend so many words or bytes, to put the bytes that stand from a place of the line on, to let an operation wait, or
 // a deed.
 #[derive(Clone, Copy)]
 pub enum Order {
@@ -48,7 +42,6 @@ pub enum Order {
     What,
     Image(usize),
     Buffer(usize),
-    Words(usize),
     Bytes(usize),
     Wait(Operation),
     Deed(Deed),
@@ -69,9 +62,6 @@ fn keyed(k: Call) -> Order
         READ => Order::Deed(Deed::Look(Look::Read(named(k.d, k.e)))),
         ASK => Order::Deed(Deed::Look(Look::Ask(named(k.d, k.e)))),
         OUTLIST => Order::Deed(Deed::Look(Look::Outlist(Partition(k.e)))),
-        WORDS => Order::Words(to),
-        PUT => Order::Deed(Deed::Put(k.d as usize, k.e)),
-        WHY => Order::Deed(Deed::Why(named(k.d, k.e))),
         RECOVER => Order::Deed(Deed::Recover(to)),
         DIGEST => Order::Deed(Deed::Look(Look::Digest)),
         SHOW => Order::Deed(Deed::Look(Look::Show)),
@@ -107,16 +97,6 @@ fn called(k: Call) -> Order
     }
 }
 
-// What `digest` and a keyword behind it ask for.
-fn digested(w: u64) -> Order
-    ensures { result ≡ digested w }
-{
-    if w == WORDS {
-        return Order::Deed(Deed::Look(Look::Words));
-    }
-    Order::What
-}
-
 // What a line asks for.
 pub fn order_of(c: Command) -> Order
     ensures { result ≡ order_of c }
@@ -125,7 +105,6 @@ pub fn order_of(c: Command) -> Order
         Command::Nothing => Order::Nothing,
         Command::What => Order::What,
         Command::Bytes(from) => Order::Bytes(from),
-        Command::Digest(w) => digested(w),
         Command::Call(k) => called(k),
     }
 }

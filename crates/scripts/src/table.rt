@@ -23,12 +23,6 @@ pub(crate) const ASK: u64 = 6386539;
 
 pub(crate) const OUTLIST: u64 = 31372865310389108;
 
-pub(crate) const WORDS: u64 = 512970876019;
-
-pub(crate) const PUT: u64 = 7370100;
-
-pub(crate) const WHY: u64 = 7825529;
-
 pub(crate) const RECOVER: u64 = 32199625091212658;
 
 pub(crate) const DIGEST: u64 = 110403869045620;
@@ -48,8 +42,8 @@ pub(crate) fn takes(w: u64) -> usize
 {
     match w {
         DIGEST | SHOW | HELP => 0,
-        IMAGE | BUFFER | UNROOT | COMMIT | OPEN | CLOSE | OUTLIST | WORDS | RECOVER | LOG => 1,
-        WORD | TRACE | LOCAL | READ | ASK | PUT | WHY | DROP => 2,
+        IMAGE | BUFFER | UNROOT | COMMIT | OPEN | CLOSE | OUTLIST | RECOVER | LOG => 1,
+        WORD | TRACE | LOCAL | READ | ASK | DROP => 2,
         FORMAT | NEW | CLR | VAL | ROOT => 3,
         HOLD => 4,
         SET => 5,

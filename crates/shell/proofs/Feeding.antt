@@ -13,7 +13,7 @@ use Rattle.input.specs.declared.Got.TheVariants.{More}
 use Rattle.input.specs.declared.Input.{Input}
 use Rattle.input.specs.declared.Input.TheVariants.{Whole}
 use Rattle.input.specs.Input.{Stands, Filled}
-use Rattle.io.specs.Counts.{IsPrefixLen}
+use Rattle.std.specs.Counts.{IsPrefixLen}
 use Rattle.scripts.specs.Runs.{bare_of}
 use Rattle.scripts.proofs.Ends.{bare_within}
 use Rattle.reporting.specs.declared.asked.Asked.{Asked}
@@ -34,6 +34,6 @@ more_within done most k got e s = rw e at s
 pub whole_counts : (n : ℕ) (bytes : List ℕ) (all : Input) → all ≡ Whole n → Filled all bytes → IsPrefixLen n bytes
 whole_counts n bytes all e s = rw e at s
 
-pub lent_begun : (log : List ℕ) (a : Asked) (n : ℕ) (d : Desk) (b : Bool) → a ≡ asked_of log → n ≤ 65536 → d ≡ desk a.words n 0 0 → Begun (record { desk = d; failed = b })
+pub lent_begun : (log : List ℕ) (a : Asked) (n : ℕ) (d : Desk) (b : Bool) → a ≡ asked_of log → n ≤ 65536 → d ≡ desk a.words n 0 → Begun (record { desk = d; failed = b })
 lent_begun log a n d b e h q =
-    rw (q, e) (record { image = (asked_bounded log).most; log = h; words = omega arith; waits = omega arith })
+    rw (q, e) (record { words = (asked_bounded log).most; bytes = h; waits = omega arith })

@@ -8,54 +8,51 @@ use mathlib.Core.List.{List}
 use lib.ListN.{length}
 use Rattle.kinds.specs.declared.Operation.{Operation}
 use Rattle.scripts.specs.declared.order.Order.{Order}
+use Rattle.catalogue.specs.Call.{outcome}
 use Rattle.desk.specs.declared.Desk.{Desk}
 use Rattle.desk.specs.declared.Turn.{Turn}
-use Rattle.desk.specs.Desk.{Lent, left, turn_of}
+use Rattle.desk.specs.Desk.{Lent, turn_of}
 use Rattle.desk.proofs.Staying.{step_stays}
 use Rattle.reporting.specs.Report.{most_words}
 use Rattle.shell.specs.declared.feed.Feed.{Feed}
 use Rattle.shell.specs.declared.start.Start.{Start}
 use Rattle.shell.specs.Feed.{Fed, Begun, room}
 
-pub record Held (d : Desk) (img log ws script : List ℕ) (f : Feed) (line : ℕ) : Type 0 where
-  pub image : most_words ≡ length img
+pub record Held (d : Desk) (img log script : List ℕ) (f : Feed) (line : ℕ) : Type 0 where
+  pub words : most_words ≡ length img
   pub bytes : 65536 ≡ length log
-  pub words : 4096 ≡ length ws
   pub space : room ≡ length script
-  pub lent : Lent d img log ws
+  pub lent : Lent d img log
   pub few : d.waits ≤ f.at
   pub counted : line ≤ f.at
   pub fed : Fed f
 
-pub held_first : (s : Start) (img log ws script : List ℕ) (f : Feed) → most_words ≡ length img → 65536 ≡ length log → 4096 ≡ length ws → room ≡ length script
-    → Begun s → Fed f → Held s.desk img log ws script f 0
-held_first s img log ws script f m n w k b g =
+pub held_first : (s : Start) (img log script : List ℕ) (f : Feed) → most_words ≡ length img → 65536 ≡ length log → room ≡ length script → Begun s → Fed f → Held s.desk img log script f 0
+held_first s img log script f m n k b g =
     record {
-      image = m;
+      words = m;
       bytes = n;
-      words = w;
       space = k;
-      lent = record { image = omega (arith, b.image); log = omega (arith, b.log); words = omega (arith, b.words) };
+      lent = record { words = omega (arith, b.words); bytes = omega (arith, b.bytes) };
       few = omega (arith, b.waits);
       counted = omega arith;
       fed = g;
     }
 
 -- after a line
-module _ (d : Desk) (img log ws script : List ℕ) (f : Feed) (n : ℕ) (h : Held d img log ws script f n) (line : List ℕ) (ops : List Operation) (o : Order) (t : Turn) (img' log' ws' : List ℕ)
-    (q : left t img' log' ws' ≡ turn_of o line d ops img log ws) (m : most_words ≡ length img') (b : 65536 ≡ length log') (w : 4096 ≡ length ws') where
-  pub lent_next : Lent t.desk img' log' ws'
+module _ (d : Desk) (img log script : List ℕ) (f : Feed) (n : ℕ) (h : Held d img log script f n) (line : List ℕ) (ops : List Operation) (o : Order) (t : Turn) (img' log' : List ℕ)
+    (q : outcome t img' log' ≡ turn_of o line d ops img log) (m : most_words ≡ length img') (b : 65536 ≡ length log') where
+  pub lent_next : Lent t.desk img' log'
   lent_next =
-      let s = (step_stays line d ops img log ws h.lent o t img' log' ws' q).lent in
-      record { image = omega (arith, s.image, h.image); log = omega (arith, s.log, h.bytes); words = omega (arith, s.words, h.words) }
+      let s = step_stays line d ops img log h.lent o t img' log' q in
+      record { words = omega (arith, s.words, h.words); bytes = omega (arith, s.bytes, h.bytes) }
 
-  pub held_next : (script' : List ℕ) (g : Feed) → room ≡ length script' → f.at < f.next → (g.at ≡ f.next) × Fed g → Held t.desk img' log' ws' script' g (n + 1)
+  pub held_next : (script' : List ℕ) (g : Feed) → room ≡ length script' → f.at < f.next → (g.at ≡ f.next) × Fed g → Held t.desk img' log' script' g (n + 1)
   held_next script' g k l e =
-      let s = step_stays line d ops img log ws h.lent o t img' log' ws' q in
+      let s = step_stays line d ops img log h.lent o t img' log' q in
       record {
-        image = m;
+        words = m;
         bytes = b;
-        words = w;
         space = k;
         lent = lent_next;
         few = omega (arith, s.waits, h.few, e.0);

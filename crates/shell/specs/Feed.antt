@@ -21,7 +21,6 @@ pub record Fed (f : Feed) : Type 0 where
 
 -- no more is lent than there is, and nothing waits
 pub record Begun (s : Start) : Type 0 where
-  pub image : s.desk.image ≤ most_words
-  pub log : s.desk.log ≤ 65536
-  pub words : s.desk.words ≤ 4096
+  pub words : s.desk.words ≤ most_words
+  pub bytes : s.desk.bytes ≤ 65536
   pub waits : s.desk.waits ≡ 0

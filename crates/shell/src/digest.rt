@@ -1,7 +1,7 @@
 // The digest of the lent words and bytes: h becomes 31 h + x + 1 modulo 4,294,967,291 at each x, from 7.
 ghost use Rattle.std.specs.Prelude.{◌<◌};
 
-use crate::out::{end, number, valued};
+use crate::out::Out;
 
 const MODULUS: u64 = 4294967291;
 
@@ -18,31 +18,22 @@ fn wide(b: u8) -> u32 {
 
 fn of_words(words: &[u32]) -> u64 {
     let mut h: u64 = 7;
-    let mut i = 0;
-    while i < words.len() {
-        h = step(h, words[i]);
-        i += 1;
+    for w in words {
+        h = step(h, *w);
     }
     h
 }
 
 fn of_bytes(bytes: &[u8]) -> u64 {
     let mut h: u64 = 7;
-    let mut i = 0;
-    while i < bytes.len() {
-        h = step(h, wide(bytes[i]));
-        i += 1;
+    for b in bytes {
+        h = step(h, wide(*b));
     }
     h
 }
 
-pub(crate) fn digest(out: &mut [u8; 4096], at: usize, words: &[u32], bytes: &[u8]) -> usize {
-    let a = valued(&mut *out, at, b"digest", of_words(words));
-    let b = number(&mut *out, a, of_bytes(bytes));
-    end(out, b)
-}
-
-pub(crate) fn sum(out: &mut [u8; 4096], at: usize, words: &[u32]) -> usize {
-    let a = valued(&mut *out, at, b"digest", of_words(words));
-    end(out, a)
+pub(crate) fn digest<R: Print + Eprint>(out: &mut Out<'_, R>, words: &[u32], bytes: &[u8]) {
+    out.valued("digest", of_words(words));
+    out.number(of_bytes(bytes));
+    out.end();
 }

@@ -4,8 +4,10 @@ ghost use Rattle.input.specs.Input.{Stands};
 ghost use Rattle.shell.specs.Feed.{Fed, room, most};
 
 use crate::out::{LOST, send};
-use input::{Got, Input};
+use input::{Got, Input, Source, fail};
 use scripts::run::{Run, bare, end_of};
+use std::io;
+use std::io::{IsTerminal, Read};
 
 // The most bytes that a script has.
 const SCRIPT: usize = 1048576;
@@ -41,13 +43,13 @@ fn over(at: usize, have: usize, status: u8) -> Feed
     }
 }
 
-fn unread() -> u8 {
-    os::fail(b"shell: the script cannot be read");
+fn unread<R: Eprint>(rt: &R, error: io::Error) -> u8 {
+    fail(rt, "shell: the script cannot be read", error);
     2
 }
 
-fn too_long() -> u8 {
-    if send(b"toolong\n") == LOST {
+fn too_long<R: Print + Eprint>(rt: &R) -> u8 {
+    if send(rt, b"toolong\n") == LOST {
         return 2;
     }
     1
@@ -89,15 +91,22 @@ fn last(script: &[u8], at: usize, have: usize) -> Feed
 }
 
 // One read more, after the prompt.
-fn ask(script: &mut [u8], have: usize) -> Got
+fn ask<R: Eprint, S: Read>(rt: &R, source: &mut Source<S>, script: &mut [u8], have: usize) -> Got
     ensures { Stands have (length script.new) result }
 {
-    io::write_all(2, b"> ");
-    input::read_more(0, script, have)
+    let _ = eprint!(rt; "> ");
+    input::read_more(source, script, have)
 }
 
 // The line that starts at a place. Where it is not complete and more may come, more is read.
-fn line_from(script: &mut [u8], at: usize, have: usize, more: bool) -> Feed
+fn line_from<R: Print + Eprint, S: Read>(
+    rt: &R,
+    source: &mut Source<S>,
+    script: &mut [u8],
+    at: usize,
+    have: usize,
+    more: bool,
+) -> Feed
     requires { (at ≤ have) × (have ≤ most) × (room ≡ length script.old) }
     ensures { (result.at ≡ at) × Fed result }
 {
@@ -110,43 +119,52 @@ fn line_from(script: &mut [u8], at: usize, have: usize, more: bool) -> Feed
         if !more {
             return last(&*script, at, n);
         }
-        match ask(&mut *script, n) {
+        match ask(rt, source, &mut *script, n) {
             Got::More(k) => {
                 if SCRIPT < k {
-                    return over(at, n, too_long());
+                    return over(at, n, too_long(rt));
                 }
                 n = k;
             }
             Got::Ended(_) => {
-                io::write_all(2, b"\n");
+                let _ = eprintln!(rt);
                 return last(&*script, at, n);
             }
-            Got::Failed => return over(at, n, unread()),
+            Got::Failed => return over(at, n, unread(rt, source.error())),
         }
     }
 }
 
-// The first line. Where standard input is no terminal, all of it is read first.
-pub(crate) fn first(script: &mut [u8]) -> Feed
+// The first line. Where the source is no terminal, all of it is read first.
+pub(crate) fn first<R: Print + Eprint, S: Read + IsTerminal>(
+    rt: &R,
+    source: &mut Source<S>,
+    script: &mut [u8],
+) -> Feed
     requires { room ≡ length script.old }
     ensures { (result.at ≡ 0) × Fed result }
 {
-    if libc::isatty(0) == 1 {
-        return line_from(script, 0, 0, true);
+    if source.is_terminal() {
+        return line_from(rt, source, script, 0, 0, true);
     }
-    match input::read_all(0, &mut *script) {
+    match input::read_all(source, &mut *script) {
         Input::Whole(n) => {
             if SCRIPT < n {
-                return over(0, 0, too_long());
+                return over(0, 0, too_long(rt));
             }
-            line_from(script, 0, n, false)
+            line_from(rt, source, script, 0, n, false)
         }
-        Input::Failed => over(0, 0, unread()),
+        Input::Failed => over(0, 0, unread(rt, source.error())),
     }
 }
 
 // The line after a line.
-pub(crate) fn next(script: &mut [u8], f: Feed) -> Feed
+pub(crate) fn next<R: Print + Eprint, S: Read>(
+    rt: &R,
+    source: &mut Source<S>,
+    script: &mut [u8],
+    f: Feed,
+) -> Feed
     requires fed { Fed f }
     requires room_value { room ≡ length script.old }
     ensures { (result.at ≡ f.next) × Fed result }
@@ -156,5 +174,5 @@ pub(crate) fn next(script: &mut [u8], f: Feed) -> Feed
     if have < at {
         return over(at, have, 0);
     }
-    line_from(script, at, have, f.more)
+    line_from(rt, source, script, at, have, f.more)
 }

@@ -1,16 +1,12 @@
 // The commands, a line each.
-use crate::out::text;
+use crate::out::Out;
 
-pub(crate) fn help(out: &mut [u8; 4096], at: usize) -> usize {
-    text(
-        out,
-        at,
-        b"image N         lends N words of image, all zeros\n\
+pub(crate) fn help<R: Print + Eprint>(out: &mut Out<'_, R>) {
+    out.text(
+        "image N         lends N words of image, all zeros\n\
         word I V        puts V at word I of the image\n\
         buffer N        lends N bytes of log, each 46\n\
         bytes AT B ..   puts the bytes B into the log from AT on\n\
-        words N         lends N words to why, all zeros\n\
-        put I V         puts V at word I of those\n\
         format P S AT   an empty heap of P partitions of S slots\n\
         new p s v       waits: a new object p.s with payload v\n\
         set p s f q t   waits: field f of p.s refers to q.t\n\
@@ -27,13 +23,11 @@ pub(crate) fn help(out: &mut [u8; 4096], at: usize) -> usize {
         drop H AT       handle H holds nothing\n\
         read P S        the object P.S\n\
         ask P S         whether a root or handle leads to P.S\n\
-        why P S         the shortest chain from a root or handle to P.S\n\
         outlist P       what partition P names in others\n\
         recover N       recovery of the first N bytes of the log\n\
         digest          a sum of the image and one of the log\n\
-        digest words    a sum of the words lent to why\n\
         show            the image\n\
         log N           the first N bytes of the log\n\
         help            these lines\n",
-    )
+    );
 }

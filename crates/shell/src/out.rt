@@ -1,79 +1,107 @@
 // What is written waits in a buffer, and goes out where the buffer is full, before the log's own bytes, after a line that is `what?`, after
-// each line at a terminal, and at the end. `at` is how many bytes wait, or LOST once a write failed, after which nothing is written any more;
-// each function answers how many wait then.
+// each line at a terminal, and at the end. Once a write failed, nothing is written any more.
+use input::fail;
+use std::fmt::InlineText;
+
 const ROOM: usize = 4096;
 
-// More than ever wait.
+// More than ever wait: a write failed.
 pub(crate) const LOST: usize = ROOM;
 
-pub(crate) fn space() -> [u8; 4096] {
+#[derive(Drop)]
+pub(crate) struct Out<'a, R> {
+    rt: &'a R,
+    bytes: [u8; 4096],
+    // How many bytes wait, or LOST.
+    at: usize,
+}
+
+fn space() -> [u8; 4096] {
     [0; 4096]
 }
 
-// Writes bytes at once: nothing waits then.
-pub(crate) fn send(bytes: &[u8]) -> usize {
-    if io::write_all(1, bytes) {
-        return 0;
-    }
-    os::fail(b"shell: the answers cannot be written");
-    LOST
-}
-
-pub(crate) fn byte(out: &mut [u8; 4096], at: usize, b: u8) -> usize {
-    if at < ROOM {
-        out[at] = b;
-        if at + 1 < ROOM {
-            return at + 1;
+// Writes bytes at once, and answers how many wait then: none, or LOST.
+pub(crate) fn send<R: Print + Eprint>(rt: &R, bytes: &[u8]) -> usize {
+    match rt.write_all(bytes) {
+        Ok(()) => 0,
+        Err(e) => {
+            fail(rt, "shell: the answers cannot be written", e);
+            LOST
         }
-        return send(&*out);
     }
-    LOST
-}
-
-pub(crate) fn text(out: &mut [u8; 4096], at: usize, bytes: &[u8]) -> usize {
-    let mut n = at;
-    let mut i = 0;
-    while i < bytes.len() {
-        n = byte(&mut *out, n, bytes[i]);
-        i += 1;
-    }
-    n
-}
-
-pub(crate) fn decimal(out: &mut [u8; 4096], at: usize, v: u64) -> usize {
-    let mut digits = [0u8; 20];
-    let k = io::decimal(v, &mut digits);
-    text(out, at, &digits[..k])
-}
-
-// A space and a number.
-pub(crate) fn number(out: &mut [u8; 4096], at: usize, v: u64) -> usize {
-    let n = byte(&mut *out, at, b' ');
-    decimal(out, n, v)
-}
-
-// A word, a space and a number.
-pub(crate) fn valued(out: &mut [u8; 4096], at: usize, word: &[u8], v: u64) -> usize {
-    let n = text(&mut *out, at, word);
-    number(out, n, v)
-}
-
-pub(crate) fn end(out: &mut [u8; 4096], at: usize) -> usize {
-    byte(out, at, b'\n')
 }
 
 // Writes the first so many bytes, or all.
-pub(crate) fn send_front(bytes: &[u8], n: usize) -> usize {
+fn send_front<R: Print + Eprint>(rt: &R, bytes: &[u8], n: usize) -> usize {
     if n < bytes.len() {
-        return send(&bytes[..n]);
+        return send(rt, &bytes[..n]);
     }
-    send(bytes)
+    send(rt, bytes)
 }
 
-// Writes what waits.
-pub(crate) fn flush(out: &[u8; 4096], at: usize) -> usize {
-    if at < ROOM {
-        return send_front(out, at);
+impl<'a, R: Print + Eprint> Out<'a, R> {
+    pub(crate) fn new(rt: &'a R) -> Out<'a, R> {
+        Out {
+            rt,
+            bytes: space(),
+            at: 0,
+        }
     }
-    LOST
+
+    // Whether a write failed.
+    pub(crate) fn is_lost(&self) -> bool {
+        self.at >= LOST
+    }
+
+    pub(crate) fn byte(&mut self, b: u8) {
+        let at = self.at;
+        if at < ROOM {
+            self.bytes[at] = b;
+            self.at = at + 1;
+            if self.at == ROOM {
+                self.at = send(self.rt, &self.bytes);
+            }
+        }
+    }
+
+    pub(crate) fn text(&mut self, text: &str) {
+        for b in text.as_bytes() {
+            self.byte(*b);
+        }
+    }
+
+    pub(crate) fn decimal(&mut self, v: u64) {
+        let digits: InlineText<20> = InlineText::of(v);
+        self.text(digits.as_str());
+    }
+
+    // A space and a number.
+    pub(crate) fn number(&mut self, v: u64) {
+        self.byte(b' ');
+        self.decimal(v);
+    }
+
+    // A word, a space and a number.
+    pub(crate) fn valued(&mut self, word: &str, v: u64) {
+        self.text(word);
+        self.number(v);
+    }
+
+    pub(crate) fn end(&mut self) {
+        self.byte(b'\n');
+    }
+
+    // Writes the first so many bytes, or all, where nothing waits.
+    pub(crate) fn send_front(&mut self, bytes: &[u8], n: usize) {
+        if self.at < ROOM {
+            self.at = send_front(self.rt, bytes, n);
+        }
+    }
+
+    // Writes what waits.
+    pub(crate) fn flush(&mut self) {
+        if self.at < ROOM {
+            self.at = send_front(self.rt, &self.bytes, self.at);
+        }
+    }
 }

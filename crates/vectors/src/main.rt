@@ -1,125 +1,130 @@
 // Runs the bodies on standard input through the cursor, at every edge of the paper's rules for a line, and prints for each where it starts and what
 // line it is; last the tail. The stored answers (stdout) were made by answers.py from the paper's rules alone. Proved: no index out of range, and it ends.
+#![tactic(auto)]
+
 use kinds::{Operation, Single, Target};
 use lines::cursor::{Cursor, Step, limit_of};
 use lines::line::Line;
+use std::io;
+use std::io::{BufWriter, Read, Write};
 
-fn say(text: &[u8]) {
-    io::write_all(1, text);
+// The most bytes that are read.
+const MOST: u64 = 65536;
+
+fn say<W: Write>(out: &mut W, text: &str) -> io::Result<()> {
+    out.write_all(text.as_bytes())
 }
 
-fn number(n: u32) {
-    say(b" ");
-    io::print_decimal(1, n as u64);
+fn number<W: Write>(out: &mut W, n: u32) -> io::Result<()> {
+    write!(out, " {n}")
 }
 
-fn place(at: usize) {
-    io::print_decimal(1, at as u64);
+fn place<W: Write>(out: &mut W, at: usize) -> io::Result<()> {
+    write!(out, "{at}")
 }
 
-fn three(a: u32, b: u32, c: u32) {
-    number(a);
-    number(b);
-    number(c);
+fn three<W: Write>(out: &mut W, a: u32, b: u32, c: u32) -> io::Result<()> {
+    write!(out, " {a} {b} {c}")
 }
 
-fn show_operation(o: Operation) {
+fn show_operation<W: Write>(out: &mut W, o: Operation) -> io::Result<()> {
     match o {
         Operation::New(n, v) => {
-            say(b" new");
-            three(n.partition.0, n.slot.0, v);
+            say(out, " new")?;
+            three(out, n.partition.0, n.slot.0, v)
         }
         Operation::Set(n, f, t) => match t {
             Target::Nothing => {
-                say(b" clr");
-                three(n.partition.0, n.slot.0, f);
+                say(out, " clr")?;
+                three(out, n.partition.0, n.slot.0, f)
             }
             Target::Object(q) => {
-                say(b" set");
-                three(n.partition.0, n.slot.0, f);
-                number(q.partition.0);
-                number(q.slot.0);
+                say(out, " set")?;
+                three(out, n.partition.0, n.slot.0, f)?;
+                number(out, q.partition.0)?;
+                number(out, q.slot.0)
             }
         },
         Operation::Val(n, v) => {
-            say(b" val");
-            three(n.partition.0, n.slot.0, v);
+            say(out, " val")?;
+            three(out, n.partition.0, n.slot.0, v)
         }
         Operation::Root(r, t) => match t {
             Target::Nothing => {
-                say(b" unroot");
-                number(r);
+                say(out, " unroot")?;
+                number(out, r)
             }
             Target::Object(q) => {
-                say(b" root");
-                three(r, q.partition.0, q.slot.0);
+                say(out, " root")?;
+                three(out, r, q.partition.0, q.slot.0)
             }
         },
     }
 }
 
-fn show_single(a: Single) {
+fn show_single<W: Write>(out: &mut W, a: Single) -> io::Result<()> {
     match a {
-        Single::Open => say(b" open"),
+        Single::Open => say(out, " open"),
         Single::Trace(p) => {
-            say(b" trace");
-            number(p.0);
+            say(out, " trace")?;
+            number(out, p.0)
         }
-        Single::Close => say(b" close"),
+        Single::Close => say(out, " close"),
         Single::Local(p) => {
-            say(b" local");
-            number(p.0);
+            say(out, " local")?;
+            number(out, p.0)
         }
         Single::Hold(h, n) => {
-            say(b" hold");
-            three(h.0, n.partition.0, n.slot.0);
+            say(out, " hold")?;
+            three(out, h.0, n.partition.0, n.slot.0)
         }
         Single::Drop(h) => {
-            say(b" drop");
-            number(h.0);
+            say(out, " drop")?;
+            number(out, h.0)
         }
     }
 }
 
-fn show(l: Line) {
+fn show<W: Write>(out: &mut W, l: Line) -> io::Result<()> {
     match l {
         Line::Heading(e, p, s) => {
-            say(b" heap");
-            three(e, p, s);
+            say(out, " heap")?;
+            three(out, e, p, s)?;
         }
-        Line::Operation(o) => show_operation(o),
+        Line::Operation(o) => show_operation(out, o)?,
         Line::End(n) => {
-            say(b" end");
-            number(n);
+            say(out, " end")?;
+            number(out, n)?;
         }
-        Line::Single(a) => show_single(a),
-        Line::Bad => say(b" bad"),
+        Line::Single(a) => show_single(out, a)?,
+        Line::Bad => say(out, " bad")?,
     }
-    say(b"\n");
+    say(out, "\n")
 }
 
-fn walk(log: &[u8]) {
+fn walk<W: Write>(out: &mut W, log: &[u8]) -> io::Result<()> {
     let limit = limit_of(log);
     let mut c = Cursor::new();
     loop {
-        place(c.at);
+        place(out, c.at)?;
         match c.next(log, limit) {
             Step::Line(l, next) => {
-                show(l);
+                show(out, l)?;
                 c = next;
             }
             Step::Tail(n) => {
-                say(b" tail ");
-                place(n);
-                say(b"\n");
-                return;
+                say(out, " tail ")?;
+                place(out, n)?;
+                return say(out, "\n");
             }
         }
     }
 }
 
-fn main() {
-    let mut space = io::large_buffer();
-    let n = io::read_full(0, &mut space);
-    walk(&space[..n]);
+fn main(rt: HostRuntime) -> io::Result<()> {
+    let mut log = Vec::new(rt.alloc());
+    rt.stdin().take(MOST).read_to_end(&mut log)?;
+    let mut out = BufWriter::new(rt.alloc(), io::writer(&rt))?;
+    walk(&mut out, &log)?;
+    out.flush()
 }

@@ -1,5 +1,5 @@
 -- `scripts::command::parse` meets its contract. Assumes nothing.
-use Rattle.scripts.proofs.Commands.{first_within, first_inside, command_none, command_remark, command_bytes, command_numbers, command_digest}
+use Rattle.scripts.proofs.Commands.{first_within, first_inside, command_none, command_remark, command_bytes, command_numbers}
 use borrow.Author.Rules.{rules}
 use Rattle.scripts.proofs.command.parse.Goals as goal
 
@@ -31,10 +31,6 @@ pub returns-then-k-eq-BYTES : goal.returns-then-k-eq-BYTES
 returns-then-k-eq-BYTES c =
     command_bytes _ _ c.word_at-w.ensures c.if-from-to.false c.if-line-from-eq35.false _ c.keyword-k.ensures c.if-k-eq-BYTES.true
 
-pub returns-then-other-eq0 : goal.returns-then-other-eq0
-returns-then-other-eq0 c =
-    command_numbers _ _ c.word_at-w.ensures c.if-from-to.false c.if-line-from-eq35.false _ c.keyword-k.ensures c.if-k-eq-BYTES.false _ c.behind-other.ensures c.if-other-eq0.true _ c.numbers.ensures
-
 pub returns : goal.returns
 returns c =
-    command_digest _ _ c.word_at-w.ensures c.if-from-to.false c.if-line-from-eq35.false _ c.keyword-k.ensures c.if-k-eq-BYTES.false _ c.behind-other.ensures c.if-other-eq0.false
+    command_numbers _ _ c.word_at-w.ensures c.if-from-to.false c.if-line-from-eq35.false _ c.keyword-k.ensures c.if-k-eq-BYTES.false _ c.numbers.ensures

@@ -51,21 +51,6 @@ unfolding keyed rows
 returns-in-31372865310389108 c =
     rw c.in-31372865310389108.is
 
-pub returns-in-512970876019 : goal.returns-in-512970876019
-unfolding keyed rows
-returns-in-512970876019 c =
-    rw c.in-512970876019.is
-
-pub returns-in-7370100 : goal.returns-in-7370100
-unfolding keyed rows
-returns-in-7370100 c =
-    rw c.in-7370100.is
-
-pub returns-in-7825529 : goal.returns-in-7825529
-unfolding keyed rows
-returns-in-7825529 c =
-    rw (c.in-7825529.is, c.named-in-7825529.ensures)
-
 pub returns-in-32199625091212658 : goal.returns-in-32199625091212658
 unfolding keyed rows
 returns-in-32199625091212658 c =

@@ -18,11 +18,6 @@ unfolding order_of
 returns-in-Bytes c =
     rw c.in-Bytes.is
 
-pub returns-in-Digest : goal.returns-in-Digest
-unfolding order_of
-returns-in-Digest c =
-    rw c.in-Digest.is c.digested.ensures
-
 pub returns-in-Call : goal.returns-in-Call
 unfolding order_of
 returns-in-Call c =

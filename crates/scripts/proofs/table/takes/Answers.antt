@@ -4,7 +4,7 @@ use mathlib.Core.Path.{refl}
 use mathlib.Core.List.{List, [], ◌∷◌}
 use Rattle.lines.specs.Words.{is_in, heading_rows, other_rows, all_rows, following, new_text, set_text, clr_text, val_text, root_text, unroot_text, open_text, trace_text, close_text, local_text, hold_text, drop_text}
 use Rattle.lines.proofs.Parts.{keys, codes}
-use Rattle.scripts.specs.Table.{rows, takes, image_text, word_text, buffer_text, format_text, commit_text, read_text, ask_text, outlist_text, words_text, put_text, why_text, recover_text, digest_text, show_text, log_text, help_text}
+use Rattle.scripts.specs.Table.{rows, takes, image_text, word_text, buffer_text, format_text, commit_text, read_text, ask_text, outlist_text, recover_text, digest_text, show_text, log_text, help_text}
 use Rattle.scripts.proofs.Rows.{takes_one, takes_rest}
 use Rattle.scripts.proofs.table.takes.Goals as goal
 
@@ -13,10 +13,10 @@ abbrev arm0 : List ℕ
 arm0 = codes (help_text ∷ show_text ∷ digest_text ∷ [])
 
 abbrev arm1 : List ℕ
-arm1 = codes (log_text ∷ open_text ∷ close_text ∷ image_text ∷ words_text ∷ buffer_text ∷ commit_text ∷ unroot_text ∷ outlist_text ∷ recover_text ∷ [])
+arm1 = codes (log_text ∷ open_text ∷ close_text ∷ image_text ∷ buffer_text ∷ commit_text ∷ unroot_text ∷ outlist_text ∷ recover_text ∷ [])
 
 abbrev arm2 : List ℕ
-arm2 = codes (ask_text ∷ put_text ∷ why_text ∷ drop_text ∷ read_text ∷ word_text ∷ local_text ∷ trace_text ∷ [])
+arm2 = codes (ask_text ∷ drop_text ∷ read_text ∷ word_text ∷ local_text ∷ trace_text ∷ [])
 
 abbrev arm3 : List ℕ
 arm3 = codes (clr_text ∷ new_text ∷ val_text ∷ root_text ∷ format_text ∷ [])
