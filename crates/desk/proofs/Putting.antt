@@ -3,14 +3,14 @@
 use Prim.Native.Nat.{ℕ, ◌+◌, ◌-◌, ◌≤◌, ◌<◌}
 use native.Mathlib.Omega.{arith}
 use mathlib.Core.Path.{◌≡◌, refl, ◌∙◌}
-use mathlib.Core.List.{List, [], ◌++◌, append-nil}
+use mathlib.Core.List.{List, ◌++◌}
 use mathlib.Core.Bool.{Bool, true, false, cond}
 use Rattle.loops.specs.Loop.{both}
 use lib.Dec.{ltb}
-use lib.ListN.{length, take, drop, replicate, length-drop, drop_of_length-le}
-use lib.Seq.{length-take-le, take_all, drop-drop}
+use lib.ListN.{length, take, drop, replicate}
+use lib.Seq.{length-take-le, drop-drop}
 use borrow.Author.Tests.{lt-ltb, le-leb, lt-leb}
-use borrow.Rule.Slice.PartMut.{mid_of, post_of, put_mid}
+use borrow.Rule.Slice.PartMut.{put_mid}
 use Rattle.journal.specs.Recover.{recover_of, byte_of}
 use Rattle.recovery.specs.declared.Recovery.{Recovery}
 use Rattle.recovery.specs.declared.Recovery.TheVariants.{Kept, Refused}

@@ -1,6 +1,8 @@
 // The desk on which a script works: a lent image, a lent log buffer and a waiting transaction; what each line leaves of them, and what it is
 // answered. `step` is proved equal to `turn_of` (specs/Desk.antt): the catalogue's calls, recovery and the commands image, word, buffer and
 // bytes change the image and the log buffer, each as its definition says, and nothing else does; what is not lent stays as it is.
+#![tactic(auto)]
+
 mod deed;
 mod lend;
 

@@ -4,6 +4,8 @@
 // one `ensures`, an equation with the definition that the same call's contract cites in `catalogue` or `recovery`, its answer said in numbers
 // (specs/Face.antt). That these numbers lose nothing is proved in proofs/Back.antt, that an operation of no kind is refused with 7 in
 // proofs/Unknown.antt, and that no second outcome meets a contract in proofs/Unique.antt.
+#![tactic(auto)]
+
 ghost use Rattle.std.specs.Prelude.{◌≡◌, ◌≤◌, length};
 ghost use Rattle.kinds.specs.Names.{most_operations, partition, named, session, word_of, Named};
 ghost use Rattle.catalogue.specs.Answers.{totals, yield, said, said_closing, said_freeing, said_reading, said_asked, said_listing, chained, said_reason};

@@ -2,7 +2,6 @@
 use mathlib.Core.Path.{ap}
 use Rattle.catalogue.specs.Call.{outcome}
 use Rattle.desk.specs.Desk.{Put, Lending, turn, answered, after_deed, turn_of}
-use borrow.Author.Rules.{rules}
 use Rattle.desk.proofs.step.Goals as goal
 
 pub returns-in-Nothing : goal.returns-in-Nothing

@@ -1,7 +1,6 @@
 -- `heidrunok::heidrunok_ask` meets its contract. Assumes nothing.
 use Rattle.heidrunok.proofs.Fields.{ask_told}
 use Rattle.catalogue.specs.declared.Asked.TheVariants.{Yes, No, Refused}
-use borrow.Author.Rules.{rules}
 use Rattle.heidrunok.proofs.heidrunok_ask.Goals as goal
 
 pub returns-in-Yes : goal.returns-in-Yes

@@ -2,7 +2,6 @@
 use mathlib.Core.Path.{sym, ap, ◌∙◌}
 use Rattle.catalogue.specs.Answers.{said_closing}
 use Rattle.heidrunok.proofs.Faces.{seen_of, totals_told}
-use borrow.Author.Rules.{rules}
 use Rattle.heidrunok.proofs.heidrunok_close.Goals as goal
 
 pub returns-in-Closed : goal.returns-in-Closed

@@ -1,11 +1,7 @@
 -- `heidrunok::heidrunok_commit` meets its contract. The loop makes the first operations, and no commit looks at others. Assumes nothing.
-use Prim.Native.Nat.{◌-◌, ◌≤◌}
-use mathlib.Core.Path.{◌≡◌, refl, ◌∙◌}
-use mathlib.Core.List.{map}
-use lib.ListN.{length, take, length-set}
-use Rattle.kinds.specs.Names.{most_operations}
+use mathlib.Core.Path.{refl, ◌∙◌}
+use lib.ListN.{length-set}
 use Rattle.catalogue.specs.Answers.{said}
-use Rattle.heidrunok.specs.Face.{operation_of}
 use Rattle.heidrunok.proofs.Faces.{seen_of, taken_more, commit_looked}
 use borrow.Author.Rules.{rules}
 use Rattle.heidrunok.proofs.heidrunok_commit.Goals as goal

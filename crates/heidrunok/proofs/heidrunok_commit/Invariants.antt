@@ -1,12 +1,9 @@
 use Prim.Native.Nat.{◌-◌, ◌≤◌}
-use mathlib.Core.Path.{◌≡◌, refl, ◌∙◌}
+use mathlib.Core.Path.{◌≡◌}
 use mathlib.Core.List.{map}
-use lib.ListN.{length, take, length-set}
+use lib.ListN.{length, take}
 use Rattle.kinds.specs.Names.{most_operations}
-use Rattle.catalogue.specs.Answers.{said}
 use Rattle.heidrunok.specs.Face.{operation_of}
-use Rattle.heidrunok.proofs.Faces.{seen_of, taken_more, commit_looked}
-use borrow.Author.Rules.{rules}
 use Rattle.heidrunok.proofs.heidrunok_commit.Given as goal
 
 abbrev pub invariant-loop-i : goal.invariant-loop-i

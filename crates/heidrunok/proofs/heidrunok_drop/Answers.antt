@@ -1,7 +1,6 @@
 -- `heidrunok::heidrunok_drop` meets its contract. Assumes nothing.
 use Rattle.heidrunok.proofs.Faces.{seen_of}
 use Rattle.catalogue.specs.Answers.{said}
-use borrow.Author.Rules.{rules}
 use Rattle.heidrunok.proofs.heidrunok_drop.Goals as goal
 
 pub returns : goal.returns

@@ -9,7 +9,6 @@ use Rattle.catalogue.specs.declared.Answer.{Answer}
 use Rattle.catalogue.specs.Answers.{said}
 use Rattle.catalogue.specs.Call.{Outcome, hold_of}
 use Rattle.heidrunok.proofs.Faces.{seen_of}
-use borrow.Author.Rules.{rules}
 use Rattle.heidrunok.proofs.heidrunok_hold.Goals as goal
 
 -- the name that was made is the name of these numbers

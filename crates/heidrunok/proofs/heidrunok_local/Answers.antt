@@ -2,7 +2,6 @@
 use mathlib.Core.Path.{sym, ap, ◌∙◌}
 use Rattle.catalogue.specs.Answers.{said_freeing}
 use Rattle.heidrunok.proofs.Faces.{seen_of, yield_told}
-use borrow.Author.Rules.{rules}
 use Rattle.heidrunok.proofs.heidrunok_local.Goals as goal
 
 pub returns-in-Freed : goal.returns-in-Freed

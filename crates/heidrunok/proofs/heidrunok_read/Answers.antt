@@ -1,6 +1,5 @@
 -- `heidrunok::heidrunok_read` meets its contract. Assumes nothing.
 use Rattle.heidrunok.proofs.Fields.{field_named, read_told}
-use borrow.Author.Rules.{rules}
 use Rattle.heidrunok.proofs.heidrunok_read.Goals as goal
 
 pub word-requires : goal.word-requires

@@ -1,7 +1,6 @@
 -- `heidrunok::heidrunok_recover` meets its contract. Assumes nothing.
 use Rattle.recovery.specs.declared.Recovery.TheVariants.{Kept, Refused}
 use Rattle.heidrunok.proofs.Faces.{recover_told}
-use borrow.Author.Rules.{rules}
 use Rattle.heidrunok.proofs.heidrunok_recover.Goals as goal
 
 pub returns-in-Kept : goal.returns-in-Kept

@@ -6,7 +6,6 @@ use Rattle.kinds.specs.declared.Start.TheVariants.{Root, Handle}
 use Rattle.kinds.specs.declared.Reason.{Reason}
 use Rattle.kinds.specs.declared.Reason.TheVariants.{Held, Refused}
 use Rattle.heidrunok.proofs.Fields.{why_told}
-use borrow.Author.Rules.{rules}
 use Rattle.heidrunok.proofs.heidrunok_why.Goals as goal
 
 -- a chain's start is the root or the handle that was matched

@@ -1,7 +1,6 @@
 -- `heidrunok::operation` meets its contract. Assumes nothing.
 use Rattle.heidrunok.specs.Face.{operation_of, operation_by}
 use borrow.Author.Tests.{ne_eqb}
-use borrow.Author.Rules.{rules}
 use Rattle.heidrunok.proofs.operation.Goals as goal
 
 pub returns-in-1 : goal.returns-in-1

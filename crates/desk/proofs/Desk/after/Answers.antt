@@ -1,6 +1,5 @@
 -- `desk::Desk::after` meets its contract. Assumes nothing.
 use Rattle.desk.specs.Desk.{after_deed}
-use borrow.Author.Rules.{rules}
 use Rattle.desk.proofs.Desk.after.Goals as goal
 
 pub returns-then-is_commit : goal.returns-then-is_commit

@@ -3,7 +3,6 @@ use mathlib.Core.Path.{ap}
 use Rattle.catalogue.specs.Call.{outcome}
 use Rattle.desk.specs.declared.Response.TheVariants.{Done, Closed, Freed}
 use Rattle.desk.specs.Desk.{Put, answered}
-use borrow.Author.Rules.{rules}
 use Rattle.desk.proofs.deed.deed.Goals as goal
 
 pub returns-in-Word : goal.returns-in-Word

@@ -1,5 +1,4 @@
 -- `desk::deed::past` meets its contract. Assumes nothing.
-use borrow.Author.Rules.{rules}
 use Rattle.desk.proofs.deed.past.Goals as goal
 
 pub returns-in-Log : goal.returns-in-Log

@@ -4,7 +4,6 @@ use mathlib.Core.Path.{sym}
 use lib.Seq.{length-take-le}
 use Rattle.desk.proofs.Putting.{recovered}
 use Rattle.desk.specs.Desk.{recover_for}
-use borrow.Author.Rules.{rules}
 use Rattle.desk.proofs.deed.recover.Goals as goal
 
 pub returns-then-log-n : goal.returns-then-log-n

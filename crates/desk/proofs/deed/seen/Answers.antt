@@ -1,6 +1,5 @@
 -- `desk::deed::seen` meets its contract. Assumes nothing.
 use Rattle.desk.specs.Desk.{seen_for}
-use borrow.Author.Rules.{rules}
 use Rattle.desk.proofs.deed.seen.Goals as goal
 
 pub returns-then-past : goal.returns-then-past

@@ -1,7 +1,6 @@
 -- `desk::deed::word` meets its contract. Assumes nothing.
 use borrow.Author.Tests.{lt-ltb, le-ltb}
 use Rattle.desk.specs.Desk.{put_word}
-use borrow.Author.Rules.{rules}
 use Rattle.desk.proofs.deed.word.Goals as goal
 
 pub returns-then-i-img : goal.returns-then-i-img

@@ -2,7 +2,6 @@
 use mathlib.Core.Path.{sym}
 use lib.Seq.{length-take-le}
 use Rattle.desk.proofs.Putting.{lend_not, lend_done}
-use borrow.Author.Rules.{rules}
 use Rattle.desk.proofs.lend.lend_bytes.Goals as goal
 
 pub returns-then-log-n : goal.returns-then-log-n

@@ -1,10 +1,9 @@
 -- `desk::lend::listed` meets its contract. Assumes nothing.
 use mathlib.Core.Path.{refl, sym, ◌∙◌}
 use native.Mathlib.Omega.{arith}
-use lib.ListN.{length, length-set}
-use Prim.Native.Nat.{◌-◌}
+use lib.ListN.{length-set}
 use lib.Seq.{length-take-le}
-use Rattle.desk.proofs.Listing.{Going, going_first, going_ends, going_fails, going_large, going_full, going_on}
+use Rattle.desk.proofs.Listing.{going_first, going_ends, going_fails, going_large, going_full, going_on}
 use borrow.Author.Rules.{rules}
 use Rattle.desk.proofs.lend.listed.Goals as goal
 

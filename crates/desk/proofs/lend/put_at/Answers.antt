@@ -1,7 +1,6 @@
 -- `desk::lend::put_at` meets its contract. Assumes nothing.
 use native.Mathlib.Omega.{arith}
 use Rattle.desk.proofs.Putting.{put_none, put_over, put_done}
-use borrow.Author.Rules.{rules}
 use Rattle.desk.proofs.lend.put_at.Goals as goal
 
 pub returns-then-list-eq0 : goal.returns-then-list-eq0

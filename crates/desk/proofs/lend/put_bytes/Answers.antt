@@ -2,7 +2,6 @@
 use mathlib.Core.Path.{sym, ◌∙◌}
 use Rattle.desk.proofs.Putting.{put_from_lem}
 use Rattle.desk.specs.Desk.{put_from}
-use borrow.Author.Rules.{rules}
 use Rattle.desk.proofs.lend.put_bytes.Goals as goal
 
 pub returns-in-Nothing : goal.returns-in-Nothing

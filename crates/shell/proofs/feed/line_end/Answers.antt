@@ -1,6 +1,5 @@
 -- `shell::feed::line_end` meets its contract. Assumes nothing.
 use Rattle.scripts.proofs.Ends.{end_after, end_within}
-use borrow.Author.Rules.{rules}
 use Rattle.shell.proofs.feed.line_end.Goals as goal
 
 pub returns : goal.returns

@@ -1,9 +1,7 @@
 -- `shell::feed::line_from` meets its contract. A read that goes on leaves less room. Assumes nothing.
-use Prim.Native.Nat.{◌-◌, ◌≤◌}
-use mathlib.Core.Path.{◌≡◌, sym}
+use mathlib.Core.Path.{sym}
 use lib.ListN.{length}
 use lib.Seq.{length-take-le}
-use Rattle.shell.specs.Feed.{most, room}
 use Rattle.shell.proofs.Feeding.{more_within}
 use borrow.Author.Rules.{rules}
 use Rattle.shell.proofs.feed.line_from.Goals as goal

@@ -1,6 +1,5 @@
 -- `shell::run::lines` meets its contract. Each turn plays a line, and the next one starts after it. Assumes nothing.
-use Prim.Native.Nat.{◌-◌}
-use Rattle.shell.proofs.Held.{Held, held_first, lent_next, held_next}
+use Rattle.shell.proofs.Held.{held_first, lent_next, held_next}
 use borrow.Author.Rules.{rules}
 use Rattle.shell.proofs.run.lines.Goals as goal
 

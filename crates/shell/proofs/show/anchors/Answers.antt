@@ -1,7 +1,5 @@
 -- `shell::show::anchors` meets its contract. Assumes nothing.
-use Prim.Native.Nat.{◌-◌, ◌≤◌}
-use Rattle.model.specs.Image.{anchor, anchors}
-use Rattle.image.specs.Within.{Within}
+use Rattle.model.specs.Image.{anchor}
 use Rattle.image.proofs.Within.{has_word}
 use borrow.Author.Rules.{rules}
 use Rattle.shell.proofs.show.anchors.Goals as goal

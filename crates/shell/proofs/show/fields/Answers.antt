@@ -1,7 +1,5 @@
 -- `shell::show::fields` meets its contract. Assumes nothing.
-use Prim.Native.Nat.{◌*◌, ◌-◌, ◌≤◌, ◌<◌}
 use Rattle.model.specs.Image.{field}
-use Rattle.image.specs.Within.{Within}
 use Rattle.image.proofs.Within.{has_word}
 use borrow.Author.Rules.{rules}
 use Rattle.shell.proofs.show.fields.Goals as goal

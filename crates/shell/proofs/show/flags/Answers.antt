@@ -1,7 +1,5 @@
 -- `shell::show::flags` meets its contract. Assumes nothing.
-use Prim.Native.Nat.{◌-◌, ◌≤◌}
 use Rattle.model.specs.Image.{flag}
-use Rattle.image.specs.Within.{Within}
 use Rattle.image.proofs.Within.{has_word}
 use borrow.Author.Rules.{rules}
 use Rattle.shell.proofs.show.flags.Goals as goal

@@ -1,7 +1,6 @@
 -- `shell::show::object` meets its contract. Assumes nothing.
 use Rattle.model.specs.Image.{state, payload, inlist}
 use Rattle.image.proofs.Within.{has_word}
-use borrow.Author.Rules.{rules}
 use Rattle.shell.proofs.show.object.Goals as goal
 
 pub state_at-state-requires : goal.state_at-state-requires

@@ -1,7 +1,4 @@
 -- `shell::show::objects` meets its contract. Assumes nothing.
-use Prim.Native.Nat.{◌*◌, ◌-◌, ◌≤◌}
-use mathlib.Core.Path.{◌≡◌}
-use Rattle.image.specs.Within.{Within}
 use Rattle.image.proofs.Within.{places}
 use borrow.Author.Rules.{rules}
 use Rattle.shell.proofs.show.objects.Goals as goal

@@ -2,7 +2,6 @@
 use native.Mathlib.Omega.{arith}
 use Rattle.model.specs.Image.{head}
 use Rattle.image.proofs.Within.{has_word}
-use borrow.Author.Rules.{rules}
 use Rattle.shell.proofs.show.phase.Goals as goal
 
 pub head_at-requires : goal.head_at-requires

@@ -1,6 +1,5 @@
 -- `shell::start::nothing` meets its contract. Assumes nothing.
 use native.Mathlib.Omega.{arith}
-use borrow.Author.Rules.{rules}
 use Rattle.shell.proofs.start.nothing.Goals as goal
 
 pub returns : goal.returns
