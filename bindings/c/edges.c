@@ -1,5 +1,5 @@
-/* What only C can do: zeroed operations, words and places of any kind; chains in words that are not all theirs; the largest image and its names
- * as numbers; and where in a line a recovery is refused. Prints each check that fails; its status is 0 where none does. */
+/* What only C can do: zeroed operations, words and places of any kind; the largest image and its names as numbers; and where in a line a
+ * recovery is refused. Prints each check that fails; its status is 0 where none does. */
 #include "heidrunok.h"
 #include <stdio.h>
 #include <string.h>
@@ -69,58 +69,6 @@ static void handles(void) {
     CHECK(kept());
     CHECK(heidrunok_drop(img, WORDS, HEIDRUNOK_HANDLES - 1, log_buffer, sizeof log_buffer, 11, &length, &extra) == 0 && length == 8);
     CHECK(memcmp(log_buffer + 11, "drop\t31\n", 8) == 0 && memcmp(was, img, sizeof img) == 0);
-}
-
-/* A refused question for a chain in so many words: its number, zeros for an answer, and nothing changed, not one word. */
-static bool denies(const uint32_t *words, size_t n, uint32_t p, uint32_t s, size_t room, uint32_t number) {
-    uint32_t start = 99, chain[9], found[9];
-    size_t references = 99;
-    bool handle = true;
-    memset(chain, 0x55, sizeof chain);
-    memset(found, 0x55, sizeof found);
-    keep();
-    return heidrunok_why(words, n, p, s, chain, room, &handle, &start, &references) == number && !handle && start == 0 && references == 0 &&
-           memcmp(chain, found, sizeof chain) == 0 && kept();
-}
-
-/* A chain in so many words: its start, its words, and nothing else changed, the words behind it neither. */
-static bool explains(uint32_t p, uint32_t s, size_t room, bool by_handle, uint32_t number, const uint32_t *expected, size_t k) {
-    uint32_t start = 99, chain[9], found[9];
-    size_t references = 99;
-    bool handle = !by_handle;
-    memset(chain, 0x55, sizeof chain);
-    memset(found, 0x55, sizeof found);
-    memcpy(found, expected, (2 * k + 1) * sizeof *found);
-    keep();
-    return heidrunok_why(img, WORDS, p, s, chain, room, &handle, &start, &references) == 0 && handle == by_handle && start == number && references == k &&
-           memcmp(chain, found, sizeof chain) == 0 && kept();
-}
-
-/* Why an object is still there: exactly as many words as the chain needs, one less, more; no chain, no object, numbers of any size. */
-static void chains(void) {
-    size_t length = 99, extra = 99;
-    const heidrunok_operation ops[] = {
-        heidrunok_new(0, 0, 1),       heidrunok_new(0, 1, 2),       heidrunok_new(1, 0, 3),    heidrunok_new(1, 1, 4),
-        heidrunok_set(0, 0, 2, 1, 0), heidrunok_set(1, 0, 3, 0, 1), heidrunok_root(15, 0, 0), heidrunok_set(1, 1, 0, 1, 1),
-    };
-    const uint32_t far[] = {1, 2, HEIDRUNOK_RADIX + 1, 3, 2}, near[] = {HEIDRUNOK_RADIX + 1, 3, 2}, alone[] = {HEIDRUNOK_RADIX + 2};
-    CHECK(heidrunok_commit(img, WORDS, ops, sizeof ops / sizeof *ops, log_buffer, sizeof log_buffer, 11, &length, &extra) == 0);
-    CHECK(explains(0, 0, 1, false, 15, far, 0));
-    CHECK(explains(0, 1, 5, false, 15, far, 2));
-    CHECK(explains(0, 1, 9, false, 15, far, 2));
-    CHECK(denies(img, WORDS, 0, 1, 4, 19));
-    CHECK(denies(img, WORDS, 0, 0, 0, 19));
-    CHECK(denies(img, WORDS, 1, 1, 9, 18));
-    CHECK(denies(img, WORDS, 1, 1, 0, 18));
-    CHECK(denies(img, WORDS, 1, 2, 0, 9));
-    CHECK(denies(img, WORDS, 2, 0, 9, 7));
-    CHECK(denies(img, WORDS, UINT32_MAX, UINT32_MAX, 0, 7));
-    CHECK(denies(img, WORDS - 1, 0, 0, 9, 1));
-    CHECK(heidrunok_hold(img, WORDS, 31, 1, 0, log_buffer, sizeof log_buffer, 11, &length, &extra) == 0);
-    CHECK(heidrunok_hold(img, WORDS, 0, 1, 1, log_buffer, sizeof log_buffer, 11, &length, &extra) == 0);
-    CHECK(explains(0, 1, 3, true, 31, near, 1));
-    CHECK(denies(img, WORDS, 0, 1, 2, 19));
-    CHECK(explains(1, 1, 9, true, 0, alone, 0));
 }
 
 /* A refused recovery of this text: its number, line and byte, nothing kept, and zeros in the image. */
@@ -200,7 +148,6 @@ static void unsound(void) {
     CHECK(heidrunok_outlist(img, WORDS, 0, &held, names) == 1 && held == 0 && memcmp(names, zeros, sizeof zeros) == 0);
     CHECK(names[HEIDRUNOK_NAMES] == UINT32_MAX);
     CHECK(kept());
-    CHECK(denies(img, WORDS, 0, 0, 9, 1));
     CHECK(fails("", 3, 1, 0));
 }
 
@@ -211,7 +158,6 @@ int main(void) {
     operations();
     places();
     handles();
-    chains();
     faults();
     unsound();
     largest();

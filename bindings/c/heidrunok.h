@@ -1,16 +1,16 @@
 /* The proved backup catalogue, for C99 and C++: link libheidrunok.a (`rt lib` in crates/heidrunok; bindings/README.md).
  *
- * Every call returns 0 where it is accepted, else the number of the refusal (1 to 19; heidrunok_refusal says it in words), and writes what it
+ * Every call returns 0 where it is accepted, else the number of the refusal (1 to 17; heidrunok_refusal says it in words), and writes what it
  * answers through its last pointers. Refused, it writes zeros there, but for *extra: the position of the operation, counted from 1 (commit: 7,
  * 8, 9), or the lowest partition that is not clean (close: 14), else 0; recovery says the line, and the byte within it. A refused call leaves
- * image, log and lent chain as they were; a refused recovery leaves zeros in the image.
+ * image and log as they were; a refused recovery leaves zeros in the image.
  *
  * A call that is logged writes its record into the log buffer from byte `at` on and answers the record's length: store these bytes, and make
  * the next such call at at + length.
  *
- * What the caller owes, since C can't say it: no pointer is NULL, also with length 0; img has `words` words, log `bytes` bytes, ops n
- * operations and chain `room` words; what the pointers of one call name does not overlap; no other thread touches it during the call. Nothing
- * else: any words, any bytes, any numbers.
+ * What the caller owes, since C can't say it: no pointer is NULL, also with length 0; img has `words` words, log `bytes` bytes and ops n
+ * operations; what the pointers of one call name does not overlap; no other thread touches it during the call. Nothing else: any words, any
+ * bytes, any numbers.
  */
 #ifndef HEIDRUNOK_H
 #define HEIDRUNOK_H
@@ -32,8 +32,6 @@ extern "C" {
 #define HEIDRUNOK_RADIX 128
 /* How many session handles there are: 0 to 31. */
 #define HEIDRUNOK_HANDLES 32
-/* How many words hold any chain in an image of P partitions of S slots, since none goes through an object twice. */
-#define HEIDRUNOK_CHAIN(P, S) (2 * (size_t)(P) * (size_t)(S) - 1)
 
 /* Made by the six functions below. Zeroed memory is no operation, and is refused with 7. */
 typedef struct {
@@ -97,13 +95,6 @@ uint32_t heidrunok_recover(uint32_t *img, size_t words, const uint8_t *log, size
 uint32_t heidrunok_read(const uint32_t *img, size_t words, uint32_t p, uint32_t s, uint32_t *payload, uint32_t fields[4]);
 /* whether a root or handle leads to the object (p, s) */
 uint32_t heidrunok_ask(const uint32_t *img, size_t words, uint32_t p, uint32_t s, bool *yes);
-/* why the object (p, s) is still there, the shortest chain of references from a root or handle to it: whether it starts at a handle, and the
- * handle's number or the root's; how many references it has, 0 where the start names the object itself; and in the first 2 * references + 1
- * words of `chain` the first name, then field and name in turn. Later words stay. Among equally short chains it is the one whose list of names
- * comes first in order, then whose fields do, then the start: roots before handles, the lowest number first. 18 where there is none, exactly
- * where heidrunok_ask says no; 19 where it needs more than `room` words */
-uint32_t heidrunok_why(const uint32_t *img, size_t words, uint32_t p, uint32_t s, uint32_t *chain, size_t room, bool *handle,
-                       uint32_t *start, size_t *references);
 /* the objects of other partitions that fields of the partition's objects name: how many, and their names in order, unused ones 0 */
 uint32_t heidrunok_outlist(const uint32_t *img, size_t words, uint32_t partition, size_t *held, uint32_t names[HEIDRUNOK_NAMES]);
 
@@ -127,8 +118,6 @@ static inline const char *heidrunok_refusal(uint32_t number) {
         "the traces equal the allowance",
         "a root, a handle or a marked object refers to an unmarked one",
         "the record does not fit from that place",
-        "no root or handle leads to the object",
-        "fewer words are lent than the chain needs",
     };
     return number < sizeof words / sizeof *words ? words[number] : "no such refusal";
 }

@@ -97,24 +97,6 @@ static void read_first(void) {
     printf("\n");
 }
 
-static void why(const char *what, uint32_t p, uint32_t s, size_t room) {
-    uint32_t start, chain[HEIDRUNOK_CHAIN(2, 4)];
-    size_t references;
-    bool handle;
-    uint32_t number = heidrunok_why(img, WORDS, p, s, chain, room, &handle, &start, &references);
-    if (number != 0) {
-        refused(what, number, "");
-        return;
-    }
-    printf("%s: %s %u", what, handle ? "handle" : "root", (unsigned)start);
-    print_name(chain[0]);
-    for (size_t i = 1; i <= references; i++) {
-        printf(" %u", (unsigned)chain[2 * i - 1]);
-        print_name(chain[2 * i]);
-    }
-    printf("\n");
-}
-
 static void outlist(const char *what, uint32_t partition) {
     size_t held;
     uint32_t names[HEIDRUNOK_NAMES];
@@ -172,9 +154,6 @@ int main(void) {
     read_first();
     ask("ask 0.1", 0, 1);
     ask("ask 1.1", 1, 1);
-    why("why 0.1", 0, 1, 5);
-    why("why 0.1, 4 words", 0, 1, 4);
-    why("why 1.1", 1, 1, 5);
     outlist("outlist 1", 1);
     outlist("outlist 2", 2);
     logged("open", heidrunok_open(img, WORDS, log_buffer, sizeof log_buffer, end, &length, &extra), "");
@@ -197,7 +176,6 @@ int main(void) {
     local("local 0", 0);
     local("local 1", 1);
     ask("ask 0.1", 0, 1);
-    why("why 0.1", 0, 1, 5);
     drop("drop", 0);
     local("local 1", 1);
     ask("ask 0.1", 0, 1);

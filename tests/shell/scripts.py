@@ -1,13 +1,13 @@
 #!/usr/bin/env python3
-"""Makes the scripts that are not written by hand (paper, stars, local, sessions, why, limits, logs, faults, editions, random-..), and from
-model.py the .answers of every script here but those of w6-.. and w7-..: they were made elsewhere, and model.py gives the same. The scripts
-w1-.., w2-.., w4-.. and w5-.. were made elsewhere too, before edition 4: the names that they put into the image by hand have its multiplier now. Those of w1-..,
+"""Makes the scripts that are not written by hand (paper, stars, local, sessions, limits, logs, faults, editions, random-..), and from model.py
+the .answers of every script here but those of w6-..: they were made elsewhere, and model.py gives the same. The scripts w1-.., w2-.., w4-..
+and w5-.. were made elsewhere too, before edition 4: the names that they put into the image by hand have its multiplier now. Those of w1-..,
 w2-.. and w4-.. were made before a refused recovery had its byte, and those of w1-.. and w2-.. for an image without handles: their images have
 W4's 32 words more. So their digests, those bytes and the heading that `log` shows are the model's, and one recovery meets a later heading of
 edition 4 (w2-calls-05: 5, which was 4); every other answer is as it came.
 
 scripts.py            makes them all anew
-scripts.py SEED       writes one random script, for trying more than are stored (from 25 on with `why`)
+scripts.py SEED       writes one random script, for trying more than are stored
 """
 import random
 import sys
@@ -363,60 +363,6 @@ def sessions():
     ]
 
 
-def why():
-    """The shortest chain that keeps an object, and what decides between equally short ones."""
-    plain = "image 125 | buffer 800 | format 2 4 @ | new 0 0 1 | new 0 1 2 | new 0 2 3 | new 0 3 4 | new 1 0 5 | new 1 1 6 | new 1 2 7 | new 1 3 8 | commit @"
-    return [
-        "# Before the first `words` none is lent: even an object that a root names wants one. 18, and all before it, comes before 19.",
-        *acted(HEAP + " | digest words | why 0 0 | new 1 1 40 | commit @ | why 1 1 | why 1 2 | why 2 0 | why 0 4 | why 4294967295 4294967295 | word 2 2 | why 0 0 | why 1 1 | why 2 0 | word 2 0 | put 0 7 | words 0 | put 0 7 | why 0 0 | digest words"),
-        "# The paper's example: the chain from root 0, its first name and then field and name; image and log stay.",
-        *acted(HEAP + " | digest | words 5 | why 0 0 | digest words | why 1 0 | digest words | why 0 1 | digest words | digest"),
-        "# Just enough words, one less, none; refused, all of them stay as found, accepted those behind the chain do.",
-        *acted(
-            HEAP + " | words 5 | put 0 9 | put 1 8 | put 2 7 | put 3 6 | put 4 5 | digest words | why 0 1 | digest words | words 4 | put 0 9 | put 3 4294967295 | digest words | why 0 1 | digest words"
-            " | why 1 0 | digest words | words 1 | put 0 4294967295 | why 1 0 | why 0 1 | digest words | why 0 0 | digest words | words 0 | why 0 0"
-            " | words 4096 | put 4095 1 | put 5 2 | put 4 3 | digest words | why 0 1 | digest words | why 0 0 | digest words | new 1 1 1 | commit @ | why 1 1 | why 1 2 | why 2 2 | digest words"
-            " | # Words lent anew are zeros; an image, a buffer, a recovery and a format leave them. | words 4096 | digest words | put 3 3 | image 125 | buffer 400 | format 2 4 0 | recover 11 | why 0 0 | digest words"
-        ),
-        "# No reference at all: a root or handle names the object. Roots before handles, the lowest number first.",
-        *acted(plain + " | words 9 | why 0 2 | hold 31 0 2 @ | why 0 2 | hold 4 0 2 @ | why 0 2 | root 15 0 2 | commit @ | why 0 2 | root 7 0 2 | commit @ | why 0 2 | root 0 0 2 | commit @ | why 0 2 | digest words | unroot 0 | unroot 7 | unroot 15 | commit @ | why 0 2 | drop 4 @ | why 0 2 | drop 31 @ | why 0 2 | digest words"),
-        "# The shortest first: a handle that names it comes before a root's chain of one, and that before one of two whose names come first.",
-        *acted(plain + " | words 9 | root 0 0 0 | set 0 0 0 0 1 | set 0 1 0 1 3 | commit @ | why 1 3 | root 9 1 2 | set 1 2 3 1 3 | commit @ | why 1 3 | hold 30 1 3 @ | why 1 3 | drop 30 @ | clr 1 2 3 | commit @ | why 1 3"),
-        "# Equally short: names first, from the first on. 0.3 is before 1.0, whatever the start and the field; by the first name that differs, not the last.",
-        *acted(plain + " | words 9 | root 0 1 0 | set 1 0 0 1 3 | root 15 0 3 | set 0 3 3 1 3 | commit @ | why 1 3 | hold 31 0 2 @ | set 0 2 3 1 3 | commit @ | why 1 3"),
-        *acted(plain + " | words 9 | root 0 0 0 | set 0 0 0 1 0 | set 1 0 0 1 3 | set 0 0 3 0 3 | set 0 3 3 1 3 | commit @ | why 1 3"),
-        *acted(plain + " | words 9 | root 3 0 1 | root 2 0 2 | set 0 1 3 1 2 | set 1 2 3 1 3 | set 0 2 0 1 0 | set 1 0 0 1 3 | commit @ | why 1 3 | clr 0 1 3 | commit @ | why 1 3"),
-        "# A name's order is its partition's, then its slot's: 0.127 comes before 1.0.",
-        *acted("image 1861 | buffer 400 | format 2 128 @ | words 3 | new 0 127 1 | new 1 0 2 | new 1 127 3 | root 0 1 0 | root 1 0 127 | set 1 0 0 1 127 | set 0 127 0 1 127 | commit @ | why 1 127 | digest words"),
-        "# The same names: then the fields, from the first on; then the start, roots before handles and the lowest number first.",
-        *acted(
-            plain + " | words 9 | root 9 0 0 | root 11 0 0 | set 0 0 3 0 1 | set 0 0 2 0 1 | set 0 1 3 0 2 | set 0 1 1 0 2 | commit @ | hold 8 0 0 @ | hold 3 0 0 @ | why 0 2 | digest words | set 0 0 0 0 1 | clr 0 1 1 | commit @ | why 0 2"
-            " | root 2 0 0 | commit @ | why 0 2 | unroot 2 | unroot 9 | commit @ | why 0 2 | unroot 11 | commit @ | why 0 2 | drop 3 @ | why 0 2 | drop 8 @ | why 0 2"
-        ),
-        "# Names before the start: what a handle names comes first, and so its chain; with the same name, the root.",
-        *acted(plain + " | words 9 | root 0 0 2 | set 0 2 0 1 1 | set 0 1 3 1 1 | commit @ | hold 31 0 1 @ | why 1 1 | hold 31 0 2 @ | why 1 1"),
-        "# References to the object itself and cycles: no chain goes round. What only itself or a cycle holds is 18, as ask says no; a chain out of it does not help.",
-        *acted(
-            plain + " | words 9 | root 4 0 0 | set 0 0 0 0 0 | set 0 0 1 0 1 | set 0 1 0 0 0 | set 0 1 1 1 0 | set 1 0 0 0 1 | set 1 0 1 1 0 | set 1 0 3 1 1 | set 1 1 0 0 0 | commit @ | why 0 0 | why 0 1 | why 1 0 | why 1 1"
-            " | set 0 2 0 0 2 | set 0 3 0 1 2 | set 1 2 2 0 3 | set 1 2 0 1 1 | commit @ | digest words | why 0 2 | why 0 3 | why 1 2 | ask 0 2 | ask 0 3 | ask 1 2 | digest words | hold 0 1 2 @ | why 0 3 | why 1 1 | why 0 2 | ask 0 2"
-        ),
-        "# A phase changes nothing of it, nor do marks; what a close frees is 9.",
-        *acted(HEAP + " | new 1 1 40 | commit @ | words 5 | open @ | why 0 1 | why 1 1 | trace 1 @ | trace 0 @ | why 1 0 | trace 1 @ | trace 0 @ | close @ | why 0 1 | why 1 1 | unroot 0 | commit @ | why 0 0 | why 0 1"),
-        "# Round all 16 partitions and back: a chain of 31 references in 63 words.",
-        *acted(
-            "image 293 | buffer 2000 | format 16 2 @"
-            + "".join(" | new %d %d %d" % (p, s, p) for s in range(2) for p in range(16))
-            + " | commit @"
-            + "".join(" | set %d 0 %d %d 0" % (p + 1, p % 4, p) for p in range(15))
-            + "".join(" | set %d 1 %d %d 1" % (p, p % 4, p + 1) for p in range(15))
-            + " | set 0 0 3 0 1 | commit @ | hold 17 15 0 @ | words 62 | put 61 9 | why 15 1 | digest words | words 63 | put 62 9 | why 15 1 | digest words | words 64 | put 63 9 | why 15 1 | digest words | why 15 0 | why 0 0 | why 0 1 | set 15 0 0 1 1 | commit @ | why 15 1 | why 0 1"
-        ),
-        "# Lines that are no command; nothing changes by them.",
-        *acted(HEAP + " | words 5 | put 4 9 | digest words | words 4097 | words 4294967295 | put 5 0 | put 4294967295 0 | put 0 4294967296 | words | words 5 5 | put 0 | put 0 0 0 | put | why | why 0 | why 0 0 0 | why 0.0 | why -1 0"),
-        *acted("digest word | digest wordss | digest Words | digest words 1 | digest words words | digest 5 | show words | words words | \tdigest \t words  | words 0 | digest words | digest"),
-    ]
-
-
 def grouped(operations):
     """The operations in commits of at most 32."""
     lines = list(operations)
@@ -446,11 +392,6 @@ def limits():
     text += "".join(" | hold %d %d 40 1000" % (h, h % 16) for h in range(32)) + " | hold 32 0 40 1000 | show | digest"
     text += "".join(" | local %d 1000" % p for p in range(16)) + "".join(" | drop %d 1000" % h for h in range(20)) + " | drop 32 1000 | show"
     text += "".join(" | local %d 1000" % p for p in range(16)) + " | hold 31 15 127 65522 | hold 31 15 127 65521 | hold 4294967295 4294967295 4294967295 0 | digest"
-    # the longest chain: through every object, each time into another partition
-    turns = [(i % 16, i // 16) for i in range(2048)]
-    text += " | format 16 128 0" + grouped("new %d %d 0" % n for n in turns) + grouped("set %d %d %d %d %d" % (*m, n[1] % 4, *n) for n, m in zip(turns, turns[1:]))
-    text += " | root 15 15 127 | commit 2000 | words 4094 | put 0 9 | why 0 0 | digest words | words 4095 | why 0 0 | digest words | words 4096 | put 4095 4294967295 | why 0 0 | digest words"
-    text += " | why 15 127 | why 0 64 | digest words | words 4097 | digest words | set 15 127 3 0 1 | hold 31 15 127 1000 | commit 2000 | why 0 0 | why 1 0 | digest"
     return text.split(" | ")
 
 
@@ -501,8 +442,6 @@ def editions():
 
 class Writer:
     """A random script, led by the model: mostly what is accepted, with all kinds of mistakes among it."""
-
-    SIZES = [(1, 1), (1, 4), (2, 3), (2, 4), (3, 2), (4, 4), (16, 2), (2, 128)]  # partitions and slots
 
     def __init__(self, seed):
         self.r = random.Random(seed)
@@ -614,20 +553,16 @@ class Writer:
         self.say("root 0 %s" % self.name(True))
         self.logged("commit")
 
-    def acts(self):
-        """What it does, and how often."""
-        return [(self.commit, 12), (self.phase, 4), (self.local, 4), (self.session, 5), (self.recovery, 2), (self.damage, 2), (self.asking, 5), (self.mistake, 1)]
-
     def script(self):
         r = self.r
-        acts, weights = zip(*self.acts())
-        parts, slots = r.choice([*self.SIZES, (r.randrange(1, 17), r.randrange(1, 9))])
+        parts, slots = r.choice([(1, 1), (1, 4), (2, 3), (2, 4), (3, 2), (4, 4), (16, 2), (2, 128), (r.randrange(1, 17), r.randrange(1, 9))])
         self.say("image %d" % model.size_of(parts, slots))
         self.say("buffer %d" % r.choice([300, 4000, 20000, 65536]))
         self.heading = "format %d %d" % (parts, slots)
         self.start()
         for _ in range(r.randrange(20, 60)):
-            r.choices(acts, weights)[0]()
+            act = r.choices([self.commit, self.phase, self.local, self.session, self.recovery, self.damage, self.asking, self.mistake], [12, 4, 4, 5, 2, 2, 5, 1])[0]
+            act()
             if r.random() < 0.3:
                 self.say("digest")
         self.say("show")
@@ -643,66 +578,14 @@ class Writer:
         self.say(self.r.choice(["read 0", "ask 0 0 0", "set 0 0 0 0", "word 14405 0", "local 0", "hold 0 0 0", "drop 0", "outlist 0 0", "recover 65537", "comit 0", "new 00 0 1", "val 0 -1 3", "bytes 0", "bytes 0 256", "log x", "", "# remark", "  \t", "\tread\t0  0 "]))
 
 
-class Asker(Writer):
-    """The same with `why`, apart, so that the scripts made before it stay as they are."""
-
-    SIZES = [(2, 4), (4, 4), (16, 2), (3, 8), (6, 5), (2, 128)]
-
-    def acts(self):
-        often = dict(super().acts()) | {self.commit: 3, self.web: 9, self.chains: 12}
-        return list(often.items())
-
-    def led(self):
-        """The objects that a root or handle leads to."""
-        heap = model.Heap(self.shell.words)
-        return [(p, s) for p, s, a in heap.objects() if heap.w[a] and heap.reached(p, s)] if heap.sound() else []
-
-    def web(self):
-        """New objects, and a row of references through some of those in use, mostly begun at one that is led to, each to the next or to one a
-        little further: chains are long then, and equally short ones many."""
-        r, heap, led = self.r, model.Heap(self.shell.words), self.led()
-        if not heap.sound():
-            return
-        used, free = ([(p, s) for p, s, a in heap.objects() if bool(heap.w[a]) == state] for state in (True, False))
-        made = r.sample(free, min(len(free), r.randrange(9)))
-        row = [r.choice(led)] if led and r.random() < 0.8 else []
-        row += r.sample(used + made, min(len(used + made), r.randrange(2, 12)))
-        for name in made:
-            self.say("new %d %d %d" % (*name, r.randrange(100)))
-        for at, name in enumerate(row):
-            for _ in range(r.randrange(1, 3)):
-                self.say("set %d %d %d %d %d" % (*name, r.randrange(4), *row[min(at + r.choice([1, 1, 1, 2, 3]), len(row) - 1)]))
-        self.logged("commit")
-
-    def chains(self):
-        """Words lent, at times just enough for a chain or one too few, and it asked for; then others with the same words."""
-        r, led = self.r, self.led()
-        names = ["%d %d" % r.choice(led) if led and r.random() < 0.8 else self.name(True) for _ in range(r.randrange(1, 5))]
-        try:
-            want = 2 * len(self.shell.check().why(*map(int, names[0].split()))[1]) + 1
-        except (model.Refused, IndexError):
-            want = 0
-        if r.random() < 0.7:
-            self.say("words %d" % r.choice([max(want - 1, 0), want, want + 1, want + 6, 4095, 4096]))
-        for _ in range(r.randrange(4)):
-            self.say("put %d %d" % (r.randrange(want + 2), r.choice([0, 1, r.randrange(2049), model.MOST])))
-        for name in names:
-            self.say("why " + name)
-            self.say("digest words")
-
-
-def writer(seed):
-    return (Writer if seed < 25 else Asker)(seed)
-
-
 if __name__ == "__main__":
     here = Path(__file__).parent
     if len(sys.argv) == 2:
-        print(writer(int(sys.argv[1])).script(), end="")
+        print(Writer(int(sys.argv[1])).script(), end="")
     else:
-        for make in (paper, stars, local, sessions, why, limits, logs, faults, editions):
+        for make in (paper, stars, local, sessions, limits, logs, faults, editions):
             (here / (make.__name__ + ".script")).write_text("\n".join(make()) + "\n")
-        for seed in range(1, 31):
-            (here / ("random-%02d.script" % seed)).write_text(writer(seed).script())
-        for script in set(here.glob("*.script")) - set(here.glob("w[67]-*")):
+        for seed in range(1, 25):
+            (here / ("random-%02d.script" % seed)).write_text(Writer(seed).script())
+        for script in set(here.glob("*.script")) - set(here.glob("w6-*")):
             script.with_suffix(".answers").write_bytes(model.play(script.read_bytes()))

@@ -1,6 +1,6 @@
 //! The paper's example from Rust: three objects in a chain, a phase of the collector, a partition freed on its own, a restore session, a
 //! crash. Prints bindings/paper.txt.
-use heidrunok::{chain_words, words, Catalogue, Field, Handle, Name, Operation, Partition, Refused, Root};
+use heidrunok::{words, Catalogue, Field, Handle, Name, Operation, Partition, Refused, Root};
 
 /// A console stores the record's bytes here, and syncs.
 fn logged(what: &str, record: Result<usize, Refused>, end: usize) {
@@ -63,13 +63,6 @@ fn read(what: &str, c: &Catalogue<'_>, name: Name) {
     }
 }
 
-fn why(what: &str, c: &Catalogue<'_>, name: Name, room: usize) {
-    match c.why(name, &mut [0; chain_words(2, 4)][..room]) {
-        Ok(chain) => println!("{what}: {chain}"),
-        Err(refused) => println!("{what}: {refused}"),
-    }
-}
-
 fn outlist(what: &str, c: &Catalogue<'_>, partition: u32) {
     match c.outlist(Partition(partition)) {
         Ok(outlist) => {
@@ -119,9 +112,6 @@ fn main() -> Result<(), Refused> {
     read("read 0.0", &c, first);
     ask("ask 0.1", &c, third);
     ask("ask 1.1", &c, stray);
-    why("why 0.1", &c, third, 5);
-    why("why 0.1, 4 words", &c, third, 4);
-    why("why 1.1", &c, stray, 5);
     outlist("outlist 1", &c, 1);
     outlist("outlist 2", &c, 2);
     let opened = c.open().map(<[u8]>::len);
@@ -143,7 +133,6 @@ fn main() -> Result<(), Refused> {
     local("local 0", &mut c, 0);
     local("local 1", &mut c, 1);
     ask("ask 0.1", &c, third);
-    why("why 0.1", &c, third, 5);
     drop("drop", &mut c, Handle(0));
     local("local 1", &mut c, 1);
     ask("ask 0.1", &c, third);

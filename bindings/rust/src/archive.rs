@@ -1,4 +1,4 @@
-//! The archive's thirteen functions, each behind one that lends it Rust's slices. All `unsafe` of this crate is here.
+//! The archive's twelve functions, each behind one that lends it Rust's slices. All `unsafe` of this crate is here.
 //!
 //! A slice goes as its pointer and its length, which Rust keeps true; a `&mut` is lent to us alone, so that nothing overlaps and no other
 //! thread is there; the rest are locals of the wrapper. The archive asks for no more (docs/PUBLIC.md: no call has a `requires`), keeps no
@@ -120,17 +120,6 @@ mod c {
             fields: *mut [u32; 4],
         ) -> u32;
         pub fn heidrunok_ask(img: *const u32, words: usize, p: u32, s: u32, yes: *mut bool) -> u32;
-        pub fn heidrunok_why(
-            img: *const u32,
-            words: usize,
-            p: u32,
-            s: u32,
-            chain: *mut u32,
-            room: usize,
-            handle: *mut bool,
-            start: *mut u32,
-            references: *mut usize,
-        ) -> u32;
         pub fn heidrunok_outlist(
             img: *const u32,
             words: usize,
@@ -332,27 +321,6 @@ pub fn ask(img: &[u32], p: u32, s: u32) -> (u32, bool) {
     // SAFETY: a slice that is only read, with its length, and a bool of our own, to which the archive writes 0 or 1.
     let number = unsafe { c::heidrunok_ask(img.as_ptr(), img.len(), p, s, &mut yes) };
     (number, yes)
-}
-
-/// The number, whether the chain starts at a handle and at which number, and how many references it has; its words are in `chain`.
-pub fn why(img: &[u32], p: u32, s: u32, chain: &mut [u32]) -> (u32, bool, u32, usize) {
-    let (mut handle, mut start, mut references) = (false, 0, 0);
-    // SAFETY: a slice that is only read and one lent to us alone, each with its length, two of our own numbers, and a bool, to which the
-    // archive writes 0 or 1.
-    let number = unsafe {
-        c::heidrunok_why(
-            img.as_ptr(),
-            img.len(),
-            p,
-            s,
-            chain.as_mut_ptr(),
-            chain.len(),
-            &mut handle,
-            &mut start,
-            &mut references,
-        )
-    };
-    (number, handle, start, references)
 }
 
 /// The number, how many names the partition holds, and the names.

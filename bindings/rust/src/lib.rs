@@ -53,12 +53,6 @@ pub fn words_for(log: &[u8]) -> usize {
     }
 }
 
-/// How many words hold any chain of [`Catalogue::why`] in an image of that size, since none goes through an object twice.
-#[must_use]
-pub const fn chain_words(partitions: u32, slots: u32) -> usize {
-    (partitions as usize).saturating_mul(slots as usize).saturating_mul(2).saturating_sub(1)
-}
-
 /// The most operations of one commit.
 pub const MOST_OPERATIONS: usize = 32;
 
@@ -199,59 +193,6 @@ impl Outlist {
     /// The names, in order and each once.
     pub fn names(&self) -> impl Iterator<Item = Name> + '_ {
         self.words.iter().filter_map(|&w| Name::of(w))
-    }
-}
-
-/// What names the first object of a chain.
-#[derive(Clone, Copy, PartialEq, Eq, PartialOrd, Ord, Hash, Debug)]
-pub enum Start {
-    /// A root.
-    Root(Root),
-    /// A session handle.
-    Handle(Handle),
-}
-
-/// A chain of references that keeps an object, in lent words: the first name, then field and name in turn.
-#[derive(Clone, Copy, PartialEq, Eq, Hash, Debug)]
-pub struct Chain<'w> {
-    /// The root or handle that it starts from.
-    pub start: Start,
-    words: &'w [u32],
-}
-
-impl Chain<'_> {
-    /// How many references it has: 0 where its start names the object itself.
-    #[must_use]
-    pub fn references(&self) -> usize {
-        self.words.len() / 2
-    }
-
-    /// The objects that it goes through: first what its start names, last the object that was asked for.
-    pub fn names(&self) -> impl Iterator<Item = Name> + '_ {
-        self.words.iter().step_by(2).filter_map(|&w| Name::of(w))
-    }
-
-    /// The field of each object, but the last, that names the next.
-    pub fn fields(&self) -> impl Iterator<Item = Field> + '_ {
-        self.words.iter().skip(1).step_by(2).map(|&w| Field(w))
-    }
-}
-
-/// The start, the first name, then field and name in turn, parted by spaces.
-impl fmt::Display for Chain<'_> {
-    fn fmt(&self, f: &mut fmt::Formatter<'_>) -> fmt::Result {
-        match self.start {
-            Start::Root(r) => write!(f, "root {}", r.0)?,
-            Start::Handle(h) => write!(f, "handle {}", h.0)?,
-        }
-        let mut names = self.names();
-        if let Some(first) = names.next() {
-            write!(f, " {first}")?;
-        }
-        for (field, name) in self.fields().zip(names) {
-            write!(f, " {} {name}", field.0)?;
-        }
-        Ok(())
     }
 }
 
@@ -423,20 +364,6 @@ impl<'a> Catalogue<'a> {
         let (number, yes) = archive::ask(self.image, name.partition.0, name.slot.0);
         accept(number, Place::Call)?;
         Ok(yes)
-    }
-
-    /// Why an object is still there: the shortest chain of references from a root or handle to it, in `chain`, of which [`chain_words`] are
-    /// always enough. Among equally short ones it is the one whose list of names comes first in order, then whose fields do, then the start:
-    /// roots before handles, the lowest number first. Words of `chain` behind it stay as they were.
-    ///
-    /// # Errors
-    /// `Range`, `Absent`, `Unheld` exactly where [`Catalogue::ask`] says no, `Narrow` where the chain wants more words. `chain` is then as it
-    /// was.
-    pub fn why<'w>(&self, name: Name, chain: &'w mut [u32]) -> Result<Chain<'w>> {
-        let (number, handle, start, references) = archive::why(self.image, name.partition.0, name.slot.0, chain);
-        accept(number, Place::Call)?;
-        let start = if handle { Start::Handle(Handle(start)) } else { Start::Root(Root(start)) };
-        Ok(Chain { start, words: &chain[..2 * references + 1] })
     }
 
     /// The objects of other partitions that fields of this one's objects name.

@@ -15,7 +15,7 @@ macro_rules! refusals {
 
         impl Refusal {
             /// Every refusal, in the order of the numbers.
-            pub const ALL: [Refusal; 19] = [$(Refusal::$name,)*];
+            pub const ALL: [Refusal; 17] = [$(Refusal::$name,)*];
 
             pub(crate) fn of(number: u32) -> Refusal {
                 match number {
@@ -51,12 +51,10 @@ refusals! {
     Spent = 15, "the traces equal the allowance";
     Unmarked = 16, "a root, a handle or a marked object refers to an unmarked one";
     Room = 17, "the record does not fit from that place";
-    Unheld = 18, "no root or handle leads to the object";
-    Narrow = 19, "fewer words are lent than the chain needs";
 }
 
 impl Refusal {
-    /// The paper's number, 1 to 19.
+    /// The paper's number, 1 to 17.
     #[must_use]
     pub const fn number(self) -> u32 {
         self as u32

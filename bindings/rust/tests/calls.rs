@@ -3,8 +3,7 @@ use std::fmt::Write as _;
 use std::{fs, path::Path};
 
 use heidrunok::{
-    chain_words, words, words_for, Catalogue, Field, Handle, Name, Operation, Partition, Place, Refusal, Refused, Root,
-    Start,
+    words, words_for, Catalogue, Field, Handle, Name, Operation, Partition, Place, Refusal, Refused, Root,
 };
 
 fn n(p: u32, s: u32) -> Name {
@@ -202,88 +201,6 @@ fn a_session_keeps_what_it_holds() -> Result<(), Refused> {
     let (bytes, before) = (c.log().to_vec(), c.image().to_vec());
     let (mut image, mut log) = (vec![7; words_for(&bytes)], bytes.clone());
     assert_eq!(Catalogue::recover(&mut image, &mut log, bytes.len())?.image(), before);
-    Ok(())
-}
-
-#[test]
-fn why_an_object_is_still_there() -> Result<(), Refused> {
-    let (mut image, mut log) = (vec![0; words(2, 4)], vec![b'.'; 400]);
-    let mut c = Catalogue::format(&mut image, &mut log, 2, 4)?;
-    c.commit(&chain())?;
-    c.commit(&[Operation::New(n(1, 1), 40), Operation::Set(n(1, 1), Field(0), Some(n(1, 1)))])?;
-    let (before, mut lent) = (c.image().to_vec(), [u32::MAX; chain_words(2, 4)]);
-    let why = c.why(n(0, 1), &mut lent)?;
-    assert_eq!(
-        (why.start, why.references(), why.to_string().as_str()),
-        (Start::Root(Root(0)), 2, "root 0 0.0 0 1.0 0 0.1")
-    );
-    assert!(why.names().eq([n(0, 0), n(1, 0), n(0, 1)]) && why.fields().eq([Field(0); 2]));
-    // Words behind the chain stay, and so do all where it is refused.
-    assert_eq!((lent[..5].to_vec(), lent[5..].to_vec()), (vec![1, 0, 129, 0, 2], vec![u32::MAX; 10]));
-    assert_eq!(c.why(n(0, 0), &mut lent[4..5])?.to_string(), "root 0 0.0");
-    let found = lent;
-    for (name, room, number) in
-        [(n(0, 1), 4, 19), (n(0, 0), 0, 19), (n(1, 1), 15, 18), (n(1, 1), 0, 18), (n(1, 2), 0, 9), (n(2, 0), 15, 7)]
-    {
-        assert_eq!(at(c.why(name, &mut lent[..room]).unwrap_err()), (number, Place::Call));
-        assert_eq!((number == 18, lent), (c.ask(name) == Ok(false), found));
-    }
-    assert_eq!(c.why(n(1, 1), &mut []).unwrap_err().to_string(), "refused 18: no root or handle leads to the object");
-    assert_eq!(c.image(), before);
-    // A handle that is nearer, then a root as near: it comes first, and the lower one before it.
-    c.hold(Handle(3), n(0, 1))?;
-    assert_eq!(c.why(n(0, 1), &mut lent)?.start, Start::Handle(Handle(3)));
-    for root in [9, 4] {
-        c.commit(&[Operation::Root(Root(root), Some(n(0, 1)))])?;
-        assert_eq!(
-            (c.why(n(0, 1), &mut lent)?.start, c.why(n(0, 1), &mut lent)?.references()),
-            (Start::Root(Root(root)), 0)
-        );
-    }
-    Ok(())
-}
-
-/// Among equally short chains: names, then fields, then the start.
-#[test]
-fn the_first_of_the_shortest_chains() -> Result<(), Refused> {
-    let (mut image, mut log, mut lent) = (vec![0; words(2, 4)], vec![b'.'; 400], [0; chain_words(2, 4)]);
-    let mut c = Catalogue::format(&mut image, &mut log, 2, 4)?;
-    let (first, second, target) = (n(0, 3), n(1, 0), n(1, 3));
-    c.commit(&[first, second, target].map(|name| Operation::New(name, 1)))?;
-    c.commit(&[Operation::Root(Root(0), Some(second)), Operation::Set(second, Field(0), Some(target))])?;
-    c.hold(Handle(31), first)?;
-    for (operation, shown) in [
-        (Operation::Val(first, 2), "root 0 1.0 0 1.3"),
-        (Operation::Set(first, Field(3), Some(target)), "handle 31 0.3 3 1.3"),
-        (Operation::Set(first, Field(2), Some(target)), "handle 31 0.3 2 1.3"),
-        (Operation::Root(Root(15), Some(first)), "root 15 0.3 2 1.3"),
-        (Operation::Root(Root(8), Some(first)), "root 8 0.3 2 1.3"),
-    ] {
-        c.commit(&[operation])?;
-        assert_eq!(c.why(target, &mut lent)?.to_string(), shown);
-    }
-    Ok(())
-}
-
-/// Through every object of the largest image, each time into another partition.
-#[test]
-fn the_longest_chain() -> Result<(), Refused> {
-    let (mut image, mut log) = (vec![0; words(16, 128)], vec![b'.'; 100_000]);
-    let mut c = Catalogue::format(&mut image, &mut log, 16, 128)?;
-    let all: Vec<Name> = (0..2048).map(|i| n(15 - i % 16, i / 16)).collect();
-    let made: Vec<Operation> = all.iter().map(|&name| Operation::New(name, 7)).collect();
-    let field = |k: usize| Field(k as u32 % 4);
-    let set: Vec<Operation> = (0..2047).map(|k| Operation::Set(all[k], field(k), Some(all[k + 1]))).collect();
-    for operations in made.chunks(32).chain(set.chunks(32)) {
-        c.commit(operations)?;
-    }
-    c.hold(Handle(0), all[0])?;
-    let mut lent = [u32::MAX; chain_words(16, 128)];
-    assert_eq!((lent.len(), at(c.why(all[2047], &mut lent[..4094]).unwrap_err())), (4095, (19, Place::Call)));
-    assert_eq!(lent, [u32::MAX; 4095]);
-    let why = c.why(all[2047], &mut lent)?;
-    assert_eq!((why.start, why.references()), (Start::Handle(Handle(0)), 2047));
-    assert!(why.names().eq(all.iter().copied()) && why.fields().eq((0..2047).map(field)));
     Ok(())
 }
 

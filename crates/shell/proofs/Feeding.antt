@@ -13,7 +13,7 @@ use Rattle.input.specs.declared.Got.TheVariants.{More}
 use Rattle.input.specs.declared.Input.{Input}
 use Rattle.input.specs.declared.Input.TheVariants.{Whole}
 use Rattle.input.specs.Input.{Stands, Filled}
-use Rattle.io.specs.Counts.{IsPrefixLen}
+use Rattle.std.specs.Counts.{IsPrefixLen}
 use Rattle.scripts.specs.Runs.{bare_of}
 use Rattle.scripts.proofs.Ends.{bare_within}
 use Rattle.reporting.specs.declared.asked.Asked.{Asked}
