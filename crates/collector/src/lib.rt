@@ -2,6 +2,8 @@
 // close are one sweep (specs/Sweeps.antt, proofs/Sweeps.antt). A trace visits its partition's objects by a list (specs/Lists.antt), each once;
 // that this comes to what the model's passes come to is proved in proofs/Walking.antt. That an act is allowed is judged in crate verdicts.
 // P and S are handed in as p and s; `Within` keeps every reference in range.
+#![tactic(auto)]
+
 ghost use Rattle.std.specs.Prelude.{ℕ, ◌*◌, ◌<◌, ◌≡◌, ◌≢◌, length};
 ghost use Rattle.kinds.specs.Names.{most_slots};
 ghost use Rattle.model.specs.Image.{count, get, place_of, Sized};

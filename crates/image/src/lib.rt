@@ -2,6 +2,8 @@
 // over lent words. Nothing above knows where a word stands. What the model defines is proved equal to the definition of its name. No function
 // asks for a sound image; what keeps every reference in range and every count right is `Within` (specs/Within.antt), which follows from
 // soundness and is kept by every move (proofs/Within.antt).
+#![tactic(auto)]
+
 ghost use Rattle.std.specs.Prelude.{◌≡◌, ◌≢◌, ◌+◌, ◌*◌, ◌^◌, ◌<◌, ◌≤◌, length, replicate, leb};
 ghost use Rattle.kinds.specs.Names.{most_slots, most_places, roots};
 ghost use Rattle.model.specs.Image.{head, anchor, flag, state, payload, inlist, field, front, addr, Has, get, put, length_of, size, blank, place, place_of, part_of, lose, gain, refer, release};

@@ -1,6 +1,8 @@
 // The kinds of things that the catalogue speaks of, with their limits: partitions, slots, names of objects, session handles, starts of chains, targets of
 // references, fields, records, outlists, operations, single-line acts, refusals, reasons, what an edition of the log decides; and names as words. That a word and its target
 // invert each other and that words are in the order of names is proved once, for any multiplier above the largest slot number, in proofs/Names.antt.
+#![tactic(auto)]
+
 ghost use Rattle.std.specs.Prelude.{◌≡◌};
 ghost use Rattle.kinds.specs.Names.{named, word_of, target_of, Named};
 ghost use Rattle.kinds.specs.Answers.{blank_record, no_names, refuse};

@@ -3,6 +3,8 @@
 // todo follow the fields inside t from there; that exactly the places that stay are noted is `all_kept` in proofs/Keeping.antt.
 // `outlist` answers the names that t's objects hold of other partitions' objects (the model's `outlist`): it marks their places and lists
 // the marked ones in order.
+#![tactic(auto)]
+
 ghost use Rattle.std.specs.Prelude.{◌≡◌, ◌+◌, ◌*◌, ◌<◌, length, replicate};
 ghost use Rattle.kinds.specs.Names.{most_places};
 ghost use Rattle.model.specs.Acts.{local_up, local_freed};

@@ -6,7 +6,7 @@ use mathlib.Core.Bool.{Bool, true, false, not, true≢false}
 use mathlib.Core.Logic.{◌≢◌, ◌⊎◌, inl, inr}
 use native.Mathlib.Omega.{arith}
 use lib.Dec.{eqb, ltb}
-use borrow.Author.Tests.{eqb-true, eqb-false, eq-eqb, ne_eqb, ltb-true, ltb-false}
+use borrow.Author.Tests.{not-true, not-false, eqb-true, eqb-false, eq-eqb, ne_eqb, ltb-true, ltb-false}
 use Rattle.loops.specs.Loop.{both, bit}
 
 -- a test cannot both pass and fail
@@ -46,11 +46,18 @@ pub ne_not : (a b : ℕ) → a ≢ b → not (eqb a b) ≡ true
 ne_not a b h = ap not (ne_eqb a b h)
 
 -- of `if !test(..)`: what the call answered, where it is left and where it is taken
-pub granted : {r b : Bool} → r ≡ b → r ≡ true → b ≡ true
-granted e q = sym e ∙ q
+pub granted : {r b : Bool} → r ≡ b → not r ≡ false → b ≡ true
+granted {r} e q = sym e ∙ not-false r q
 
-pub denied : {r b : Bool} → r ≡ b → r ≡ false → b ≡ false
-denied e q = sym e ∙ q
+pub denied : {r b : Bool} → r ≡ b → not r ≡ true → b ≡ false
+denied {r} e q = sym e ∙ not-true r q
+
+-- the same where the fact is told of the answer itself
+pub told_true : {r b : Bool} → r ≡ b → r ≡ true → b ≡ true
+told_true e q = sym e ∙ q
+
+pub told_false : {r b : Bool} → r ≡ b → r ≡ false → b ≡ false
+told_false e q = sym e ∙ q
 
 pub bit_le : (b : Bool) → bit b ≤ 1
 bit_le true = omega arith

@@ -3,6 +3,8 @@
 // `ask` notes what roots and handles name and lets crate todo follow the fields from there, over as many bits as there can be places. That these have the
 // places of the model's `ask` is `answered` in proofs/Answering.antt. A name is judged in
 // crate verdicts.
+#![tactic(auto)]
+
 ghost use Rattle.std.specs.Prelude.{◌≡◌, ℕ, ◌*◌, ◌<◌};
 ghost use Rattle.model.specs.Image.{field, place, Has};
 ghost use Rattle.model.specs.Questions as Questions;

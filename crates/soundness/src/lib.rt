@@ -4,6 +4,8 @@
 // the tally. One loop (`all`) makes the other tests, over an enum of checks. Each field and count is read once, a
 // state once more for every reference to it; no pass divides by S.
 // P and S are compared before anything is multiplied, and a place is known before its state is read.
+#![tactic(auto)]
+
 ghost use Rattle.std.specs.Prelude.{◌≡◌, ◌+◌, ◌*◌, ◌<◌, ◌≤◌, true, not, eqb, replicate};
 ghost use Rattle.loops.specs.Loop.{bit, every};
 ghost use Rattle.kinds.specs.Names.{most_slots, most_places};

@@ -2,6 +2,8 @@
 // places in the order of their noting (`Noted`, specs/Notes.antt). `enter` notes a place, `note_anchors` what roots and handles name among these places,
 // and `spread` visits the list from its front, noting what the fields of each place name, until the list has no place left. That it comes to
 // the bits that the model's passes come to is `spread`'s contract, by the theory of walks (model/proofs/Walking.antt) in proofs/Leading.antt.
+#![tactic(auto)]
+
 ghost use Rattle.std.specs.Prelude.{◌≡◌, ◌+◌, ◌*◌, ◌≤◌, ◌<◌};
 ghost use Rattle.kinds.specs.Names.{most_slots};
 ghost use Rattle.model.specs.Questions.{add_bit};

@@ -2,6 +2,8 @@
 // model's (model/specs/Judge.antt). Their loops are one search for the first that meets a test (specs/Searches.antt); what a search comes to is
 // proved in proofs/Searches.antt.
 // P and S are handed in as p and s; `Within` keeps every reference in range.
+#![tactic(auto)]
+
 ghost use Rattle.std.specs.Prelude.{ℕ, ◌*◌, ◌<◌, ◌≤◌, ◌≡◌, ◌≢◌};
 ghost use Rattle.model.specs.Image.{Image, place_of};
 ghost use Rattle.kinds.specs.declared.Single.TheVariants.{Open, Trace, Close, Local, Hold, Drop};

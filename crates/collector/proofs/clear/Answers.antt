@@ -1,14 +1,12 @@
 -- `collector::clear` meets its contract. Assumes nothing. After k turns the first k fields are released.
 use Rattle.collector.proofs.Bounds.{has_after, long_same, with_put, with_release}
-use Rattle.image.specs.Within.{Within}
 use Rattle.image.proofs.Within.{has_word}
 use Rattle.model.specs.Acts.{clear}
-use Rattle.model.specs.Image.{Image, state, payload, field, put, release}
+use Rattle.model.specs.Image.{Image, state, payload, put}
 use Rattle.loops.proofs.Turns.{each_none, each_more, each_done}
 use Rattle.loops.specs.Loop.{each}
 use native.Mathlib.Omega.{arith}
-use mathlib.Core.Path.{◌≡◌, ap, ◌∙◌}
-use Prim.Native.Nat.{ℕ, ◌≤◌, ◌-◌}
+use mathlib.Core.Path.{ap, ◌∙◌}
 use borrow.Author.Rules.{rules}
 use Rattle.collector.proofs.clear.Invariants.{released}
 use Rattle.collector.proofs.clear.Goals as goal

@@ -1,14 +1,8 @@
-use Rattle.collector.proofs.Bounds.{has_after, long_same, with_put, with_release}
 use Rattle.image.specs.Within.{Within}
-use Rattle.image.proofs.Within.{has_word}
-use Rattle.model.specs.Acts.{clear}
-use Rattle.model.specs.Image.{Image, state, payload, field, put, release}
-use Rattle.loops.proofs.Turns.{each_none, each_more, each_done}
+use Rattle.model.specs.Image.{Image, field, release}
 use Rattle.loops.specs.Loop.{each}
-use native.Mathlib.Omega.{arith}
-use mathlib.Core.Path.{◌≡◌, ap, ◌∙◌}
+use mathlib.Core.Path.{◌≡◌}
 use Prim.Native.Nat.{ℕ, ◌≤◌, ◌-◌}
-use borrow.Author.Rules.{rules}
 use Rattle.collector.proofs.clear.Given as goal
 
 abbrev pub released : ℕ → ℕ → Image → ℕ → Image

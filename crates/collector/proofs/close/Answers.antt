@@ -4,7 +4,6 @@ use Rattle.collector.proofs.Sweeps.{closes}
 use Rattle.model.specs.Image.{phase, count, allowance}
 use Rattle.image.proofs.Within.{has_word, places}
 use native.Mathlib.Omega.{arith}
-use borrow.Author.Rules.{rules}
 use Rattle.collector.proofs.close.Goals as goal
 
 pub head_at-count-requires : goal.head_at-count-requires

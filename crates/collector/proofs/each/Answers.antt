@@ -1,11 +1,7 @@
 -- `collector::each` meets its contract. Assumes nothing. After i turns the first i numbers are swept.
 use Rattle.collector.proofs.Bounds.{long_same}
-use Rattle.collector.specs.Sweeps.{swept}
-use Rattle.image.specs.Within.{Within}
 use Rattle.loops.proofs.Turns.{each_none, each_more, each_done}
-use Rattle.loops.specs.Loop.{each}
-use mathlib.Core.Path.{◌≡◌, ◌∙◌}
-use Prim.Native.Nat.{◌≤◌, ◌-◌}
+use mathlib.Core.Path.{◌∙◌}
 use borrow.Author.Rules.{rules}
 use Rattle.collector.proofs.each.Goals as goal
 

@@ -1,11 +1,8 @@
-use Rattle.collector.proofs.Bounds.{long_same}
 use Rattle.collector.specs.Sweeps.{swept}
 use Rattle.image.specs.Within.{Within}
-use Rattle.loops.proofs.Turns.{each_none, each_more, each_done}
 use Rattle.loops.specs.Loop.{each}
-use mathlib.Core.Path.{◌≡◌, ◌∙◌}
+use mathlib.Core.Path.{◌≡◌}
 use Prim.Native.Nat.{◌≤◌, ◌-◌}
-use borrow.Author.Rules.{rules}
 use Rattle.collector.proofs.each.Given as goal
 
 abbrev pub invariant-loop-i : goal.invariant-loop-i

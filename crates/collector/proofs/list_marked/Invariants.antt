@@ -1,17 +1,9 @@
-use Prim.Native.Nat.{ℕ, ◌+◌, ◌*◌, ◌-◌, ◌≤◌, ◌<◌}
-use mathlib.Core.Path.{◌≡◌, ◌∙◌, subst}
-use mathlib.Core.Logic.{⊎_elim}
-use native.Mathlib.Nat.{le_antisymm}
-use native.Mathlib.Omega.{arith}
-use lib.ListN.{length, length-set}
-use borrow.Author.Tests.{eq-eqb, ne_eqb}
-use Rattle.kinds.specs.Names.{most_slots, most_places}
+use Prim.Native.Nat.{◌+◌, ◌*◌, ◌-◌, ◌≤◌}
+use mathlib.Core.Path.{◌≡◌}
+use lib.ListN.{length}
+use Rattle.kinds.specs.Names.{most_slots}
 use Rattle.model.specs.Acts.{marked}
 use Rattle.model.specs.Walk.{Todo}
-use Rattle.model.proofs.Places.{slot_in}
-use Rattle.model.proofs.Walking.{todo_none, todo_most, todo_in, todo_out}
-use Rattle.image.proofs.Within.{places, has_word}
-use borrow.Author.Rules.{rules}
 use Rattle.collector.proofs.list_marked.Given as goal
 
 abbrev pub invariant-loop-k : goal.invariant-loop-k

@@ -7,7 +7,6 @@ use Rattle.model.specs.Image.{part_of}
 use Rattle.model.proofs.Walking.{longer_none, longer_one}
 use Rattle.image.proofs.Within.{places, has_word}
 use Rattle.collector.proofs.Listing.{Fresh, word_nothing, word_marks, word_stays, noted_far, noted_room, noted_here}
-use borrow.Author.Rules.{rules}
 use Rattle.collector.proofs.note.Goals as goal
 
 pub returns-then-w-eq0 : goal.returns-then-w-eq0

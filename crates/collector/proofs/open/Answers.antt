@@ -6,7 +6,6 @@ use Rattle.model.specs.Image.{phase, count, allowance}
 use Rattle.image.proofs.Within.{has_word, places}
 use native.Mathlib.Omega.{arith}
 use Prim.Native.Nat.{◌≤◌}
-use borrow.Author.Rules.{rules}
 use Rattle.collector.proofs.open.Goals as goal
 
 pub put_head-requires : goal.put_head-requires

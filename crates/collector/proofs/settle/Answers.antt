@@ -4,7 +4,6 @@ use Rattle.model.specs.Image.{state}
 use Rattle.model.specs.Acts.{settle}
 use Rattle.image.proofs.Within.{has_word}
 use borrow.Author.Tests.{eq-eqb, ne_eqb}
-use borrow.Author.Rules.{rules}
 use Rattle.collector.proofs.settle.Goals as goal
 
 pub state_at-x-requires : goal.state_at-x-requires

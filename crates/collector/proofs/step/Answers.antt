@@ -5,7 +5,6 @@ use Rattle.model.specs.Image.{anchor, flag, anchors, an_anchor}
 use Rattle.image.proofs.Within.{Leads, has_word}
 use Rattle.collector.proofs.Bounds.{with_put, with_mark}
 use Prim.Native.Nat.{◌<◌, ◌*◌}
-use borrow.Author.Rules.{rules}
 use Rattle.collector.proofs.step.Goals as goal
 
 pub put_flag-requires : goal.put_flag-requires

@@ -7,7 +7,6 @@ use Rattle.image.proofs.Within.{has_word}
 use Rattle.collector.proofs.Bounds.{has_after}
 use Rattle.collector.proofs.Sweeps.{finishes}
 use Rattle.collector.proofs.Walking.{marks_head}
-use borrow.Author.Rules.{rules}
 use Rattle.collector.proofs.trace.Goals as goal
 
 pub head_at-c-requires : goal.head_at-c-requires

@@ -1,7 +1,6 @@
 -- `collector::unmarked` meets its contract. Assumes nothing. After j turns c is the number of unmarked objects of the first j places.
-use Rattle.loops.specs.Loop.{tally, bit}
+use Rattle.loops.specs.Loop.{bit}
 use mathlib.Core.Bool.{Bool}
-use mathlib.Core.Logic.{⊎_elim}
 use Rattle.model.specs.Acts.{unmarked}
 use Rattle.model.specs.Image.{get, state}
 use Rattle.model.proofs.Keys.{has}
@@ -10,7 +9,7 @@ use Rattle.loops.proofs.Turns.{tally_none, tally_more, tally_done}
 use lib.Dec.{eqb}
 use native.Mathlib.Omega.{arith}
 use mathlib.Core.Path.{◌≡◌, sym, ap, ◌∙◌}
-use Prim.Native.Nat.{ℕ, ◌≤◌, ◌-◌, ◌+◌}
+use Prim.Native.Nat.{ℕ, ◌+◌}
 use borrow.Author.Tests.{eq-eqb, ne_eqb}
 use borrow.Author.Rules.{rules}
 use Rattle.collector.proofs.unmarked.Goals as goal

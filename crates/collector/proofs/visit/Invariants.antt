@@ -1,17 +1,11 @@
-use Prim.Native.Nat.{◌*◌, ◌-◌, ◌≤◌}
-use mathlib.Core.Path.{◌≡◌, ◌∙◌}
-use native.Mathlib.Omega.{arith}
+use Prim.Native.Nat.{◌-◌, ◌≤◌}
+use mathlib.Core.Path.{◌≡◌}
 use Rattle.loops.specs.Loop.{each}
-use Rattle.loops.proofs.Turns.{each_none, each_more, each_done}
-use Rattle.model.specs.Image.{get, field, a_field}
+use Rattle.model.specs.Image.{get, field}
 use Rattle.model.specs.Acts.{mark_word}
 use Rattle.model.specs.Walk.{Longer}
-use Rattle.model.proofs.Walking.{longer_none, longer_then}
 use Rattle.image.specs.Within.{Within}
-use Rattle.image.proofs.Within.{Leads, has_word}
-use Rattle.collector.proofs.Bounds.{long_same, with_mark}
-use Rattle.collector.specs.Lists.{Listed, mark_fields}
-use borrow.Author.Rules.{rules}
+use Rattle.collector.specs.Lists.{Listed}
 use Rattle.collector.proofs.visit.Given as goal
 
 abbrev pub invariant-loop-k : goal.invariant-loop-k

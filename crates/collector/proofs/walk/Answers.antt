@@ -1,11 +1,10 @@
 -- `collector::walk` meets its contract. Assumes nothing. Of the list's objects the first `at` are visited (`Walking`); it is never longer than a partition.
-use Prim.Native.Nat.{◌-◌, ◌<◌}
+use Prim.Native.Nat.{◌<◌}
 use native.Mathlib.Omega.{arith}
 use Rattle.kinds.specs.Names.{most_slots}
 use Rattle.model.proofs.Walking.{todo_most}
 use Rattle.collector.proofs.Bounds.{long_same}
-use Rattle.collector.proofs.Walking.{Walking, walking_first, walking_within, next_in, walking_next, walking_end}
-use borrow.Author.Rules.{rules}
+use Rattle.collector.proofs.Walking.{walking_first, walking_within, next_in, walking_next, walking_end}
 use Rattle.collector.proofs.walk.Goals as goal
 
 pub loop-at-init : goal.loop-at-init

@@ -1,8 +1,8 @@
 -- `image::clear` meets its contract. Assumes nothing.
-use Prim.Native.Nat.{◌-◌, ◌≤◌, ◌<◌}
+use Prim.Native.Nat.{◌<◌}
 use mathlib.Core.Path.{◌≡◌, refl, ◌∙◌}
-use mathlib.Core.List.{◌++◌, append-nil}
-use lib.ListN.{length, drop, replicate, length-set, drop_of_length-le}
+use mathlib.Core.List.{append-nil}
+use lib.ListN.{length, length-set, drop_of_length-le}
 use borrow.Author.Fill.{fill_none, fill_more}
 use borrow.Author.Rules.{rules}
 use Rattle.image.proofs.clear.Goals as goal

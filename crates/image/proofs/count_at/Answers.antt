@@ -5,7 +5,6 @@ use native.Mathlib.Omega.{arith}
 use Rattle.model.specs.Image.{part_of}
 use Rattle.image.proofs.Within.{word_most}
 use Rattle.image.proofs.Counts.{at_nothing, at_near, at_below, at_above}
-use borrow.Author.Rules.{rules}
 use Rattle.image.proofs.count_at.Goals as goal
 
 pub returns-then-w-eq0 : goal.returns-then-w-eq0

@@ -3,7 +3,6 @@ use Rattle.image.proofs.Formats.{formatted}
 use Rattle.model.specs.Image.{length_of, size}
 use lib.ListN.{length-set}
 use native.Mathlib.Omega.{arith}
-use borrow.Author.Rules.{rules}
 use Rattle.image.proofs.format.Goals as goal
 
 pub bounds-img-0 : goal.bounds-img-0

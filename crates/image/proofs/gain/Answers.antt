@@ -1,7 +1,6 @@
 -- `image::gain` meets its contract. Assumes nothing.
 use native.Mathlib.Omega.{arith}
 use Rattle.image.proofs.Counts.{nowhere, somewhere, at_in, at_fits, gain_none, gain_one}
-use borrow.Author.Rules.{rules}
 use Rattle.image.proofs.gain.Goals as goal
 
 pub returns-then-at-eq0 : goal.returns-then-at-eq0

@@ -1,7 +1,6 @@
 -- `image::lose` meets its contract. Assumes nothing.
 use native.Mathlib.Omega.{arith}
 use Rattle.image.proofs.Counts.{nowhere, somewhere, at_in, at_fits, lose_none, lose_one}
-use borrow.Author.Rules.{rules}
 use Rattle.image.proofs.lose.Goals as goal
 
 pub returns-then-at-eq0 : goal.returns-then-at-eq0

@@ -8,7 +8,6 @@ use Rattle.model.specs.Image.{Image, state, flag, get, put, place_of, part_of}
 use Rattle.model.specs.Acts.{mark, mark_word}
 use Rattle.model.proofs.Keys.{has_put}
 use Rattle.image.proofs.Within.{has_word, flag_in}
-use borrow.Author.Rules.{rules}
 use Rattle.image.proofs.mark_word.Goals as goal
 
 -- an unmarked object gets its mark

@@ -2,7 +2,6 @@
 use Rattle.image.proofs.Within.{part_none, part_word}
 use Rattle.model.specs.Image.{part_of}
 use native.Mathlib.Omega.{arith}
-use borrow.Author.Rules.{rules}
 use Rattle.image.proofs.part_of.Goals as goal
 
 pub returns-then-w-eq0 : goal.returns-then-w-eq0

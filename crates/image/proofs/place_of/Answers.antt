@@ -5,7 +5,6 @@ use Rattle.kinds.specs.Names.{radix}
 use Rattle.model.specs.Image.{place_of}
 use native.Mathlib.Omega.{arith}
 use Rattle.image.proofs.Within.{product, word_none}
-use borrow.Author.Rules.{rules}
 use Rattle.image.proofs.place_of.Goals as goal
 
 pub returns-then-w-eq0 : goal.returns-then-w-eq0

@@ -3,7 +3,6 @@ use native.Mathlib.Omega.{arith}
 use Rattle.model.specs.Image.{field, Has}
 use Rattle.image.proofs.Within.{has_word}
 use Rattle.image.proofs.Counts.{loses, released}
-use borrow.Author.Rules.{rules}
 use Rattle.image.proofs.release_field.Goals as goal
 
 pub field_at-old-requires : goal.field_at-old-requires

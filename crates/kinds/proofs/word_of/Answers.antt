@@ -1,5 +1,4 @@
 use Rattle.kinds.specs.Names.{word_of}
-use mathlib.Core.Path.{refl}
 use Rattle.kinds.proofs.word_of.Goals as goal
 
 pub returns-in-Nothing : goal.returns-in-Nothing

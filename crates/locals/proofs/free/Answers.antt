@@ -1,14 +1,9 @@
 -- `locals::free` meets its contract. Assumes nothing. After k turns the first k slots are settled.
 use Rattle.locals.proofs.Owning.{slot_small, slot_most}
 use Rattle.collector.proofs.Bounds.{long_same}
-use Rattle.image.specs.Within.{Within}
-use Rattle.locals.specs.Slots.{SlotOf, settle_of}
-use Rattle.model.specs.Image.{Image}
-use Rattle.model.specs.Questions.{Bits}
+use Rattle.locals.specs.Slots.{SlotOf}
 use Rattle.loops.proofs.Turns.{each_none, each_more, each_done}
-use Rattle.loops.specs.Loop.{each}
-use mathlib.Core.Path.{◌≡◌, ◌∙◌}
-use Prim.Native.Nat.{ℕ, ◌+◌, ◌*◌, ◌≤◌, ◌-◌}
+use mathlib.Core.Path.{◌∙◌}
 use native.Mathlib.Omega.{arith}
 use borrow.Author.Rules.{rules}
 use Rattle.locals.proofs.free.Invariants.{settled}

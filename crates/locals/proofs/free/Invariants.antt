@@ -1,15 +1,10 @@
-use Rattle.locals.proofs.Owning.{slot_small, slot_most}
-use Rattle.collector.proofs.Bounds.{long_same}
 use Rattle.image.specs.Within.{Within}
-use Rattle.locals.specs.Slots.{SlotOf, settle_of}
+use Rattle.locals.specs.Slots.{settle_of}
 use Rattle.model.specs.Image.{Image}
 use Rattle.model.specs.Questions.{Bits}
-use Rattle.loops.proofs.Turns.{each_none, each_more, each_done}
 use Rattle.loops.specs.Loop.{each}
-use mathlib.Core.Path.{◌≡◌, ◌∙◌}
+use mathlib.Core.Path.{◌≡◌}
 use Prim.Native.Nat.{ℕ, ◌+◌, ◌*◌, ◌≤◌, ◌-◌}
-use native.Mathlib.Omega.{arith}
-use borrow.Author.Rules.{rules}
 use Rattle.locals.proofs.free.Given as goal
 
 abbrev pub settled : ℕ → ℕ → Bits → Image → ℕ → Image

@@ -1,13 +1,10 @@
 -- `locals::gather` meets its contract. Assumes nothing. After i turns the names of the first i places that are marked are put down (`Listed`).
 use Rattle.model.proofs.Naming.{Listed, listed_none, listed_more, listed_room}
-use Rattle.model.specs.Outlist.{name_one, list_names}
+use Rattle.model.specs.Outlist.{list_names}
 use Rattle.kinds.specs.Names.{most_places}
-use Rattle.kinds.specs.Answers.{no_names}
-use Rattle.locals.specs.Outlist.{name_state}
 use Rattle.loops.proofs.Turns.{each_none, each_more, each_done}
-use Rattle.loops.specs.Loop.{each}
-use mathlib.Core.Path.{◌≡◌, ◌∙◌, sym, subst}
-use Prim.Native.Nat.{◌*◌, ◌≤◌, ◌<◌, ◌-◌}
+use mathlib.Core.Path.{◌∙◌, sym, subst}
+use Prim.Native.Nat.{◌<◌}
 use native.Mathlib.Omega.{arith}
 use Rattle.locals.proofs.gather.Goals as goal
 

@@ -1,13 +1,10 @@
-use Rattle.model.proofs.Naming.{Listed, listed_none, listed_more, listed_room}
-use Rattle.model.specs.Outlist.{name_one, list_names}
-use Rattle.kinds.specs.Names.{most_places}
+use Rattle.model.proofs.Naming.{Listed}
+use Rattle.model.specs.Outlist.{name_one}
 use Rattle.kinds.specs.Answers.{no_names}
 use Rattle.locals.specs.Outlist.{name_state}
-use Rattle.loops.proofs.Turns.{each_none, each_more, each_done}
 use Rattle.loops.specs.Loop.{each}
-use mathlib.Core.Path.{◌≡◌, ◌∙◌, sym, subst}
-use Prim.Native.Nat.{◌*◌, ◌≤◌, ◌<◌, ◌-◌}
-use native.Mathlib.Omega.{arith}
+use mathlib.Core.Path.{◌≡◌}
+use Prim.Native.Nat.{◌*◌, ◌≤◌, ◌-◌}
 use Rattle.locals.proofs.gather.Given as goal
 
 abbrev pub invariant-loop-i : goal.invariant-loop-i

@@ -3,7 +3,6 @@ use Rattle.locals.proofs.Keeping.{all_kept}
 use Rattle.locals.proofs.Owning.{row_small, row_most}
 use Rattle.todo.proofs.Noting.{noted_none}
 use native.Mathlib.Omega.{arith}
-use borrow.Author.Rules.{rules}
 use Rattle.locals.proofs.keep.Goals as goal
 
 pub overflow_mul-lo : goal.overflow_mul-lo

@@ -1,7 +1,6 @@
 -- `locals::local` meets its contract. Assumes nothing.
 use Rattle.locals.proofs.Freeing.{freed, number}
 use mathlib.Core.Path.{◌∙◌}
-use borrow.Author.Rules.{rules}
 use Rattle.locals.proofs.local.Goals as goal
 
 pub returns : goal.returns

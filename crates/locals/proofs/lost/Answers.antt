@@ -1,10 +1,9 @@
 -- `locals::lost` meets its contract. Assumes nothing. After k turns c is the number of the first k slots that are lost, so at most k.
 use Rattle.loops.proofs.Turns.{tally_none, tally_more, tally_done}
 use Rattle.loops.proofs.Tests.{bit_le}
-use Rattle.loops.specs.Loop.{tally}
 use Rattle.locals.specs.Slots.{lost_at}
-use mathlib.Core.Path.{◌≡◌, ap, ◌∙◌}
-use Prim.Native.Nat.{ℕ, ◌+◌, ◌≤◌, ◌-◌}
+use mathlib.Core.Path.{ap, ◌∙◌}
+use Prim.Native.Nat.{ℕ, ◌+◌, ◌≤◌}
 use native.Mathlib.Omega.{arith}
 use borrow.Author.Rules.{rules}
 use Rattle.locals.proofs.lost.Goals as goal

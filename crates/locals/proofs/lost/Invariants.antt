@@ -1,11 +1,7 @@
-use Rattle.loops.proofs.Turns.{tally_none, tally_more, tally_done}
-use Rattle.loops.proofs.Tests.{bit_le}
 use Rattle.loops.specs.Loop.{tally}
 use Rattle.locals.specs.Slots.{lost_at}
-use mathlib.Core.Path.{◌≡◌, ap, ◌∙◌}
-use Prim.Native.Nat.{ℕ, ◌+◌, ◌≤◌, ◌-◌}
-use native.Mathlib.Omega.{arith}
-use borrow.Author.Rules.{rules}
+use mathlib.Core.Path.{◌≡◌}
+use Prim.Native.Nat.{◌≤◌, ◌-◌}
 use Rattle.locals.proofs.lost.Given as goal
 
 abbrev pub invariant-loop-k : goal.invariant-loop-k

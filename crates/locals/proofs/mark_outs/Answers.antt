@@ -1,12 +1,11 @@
 -- `locals::mark_outs` meets its contract. Assumes nothing. After f turns what the first f fields name outside t is marked.
 use Rattle.kinds.specs.Names.{most_places}
-use Rattle.model.specs.Outlist.{out_one, out_bits}
+use Rattle.model.specs.Outlist.{out_bits}
 use Rattle.model.specs.Questions.{collect}
 use Rattle.loops.proofs.Turns.{each_none, each_more, each_done}
-use Rattle.loops.specs.Loop.{each}
-use lib.ListN.{length, replicate, length-replicate}
-use mathlib.Core.Path.{◌≡◌, ◌∙◌}
-use Prim.Native.Nat.{ℕ, ◌*◌, ◌≤◌, ◌-◌}
+use lib.ListN.{length-replicate}
+use mathlib.Core.Path.{◌∙◌}
+use Prim.Native.Nat.{ℕ}
 use native.Mathlib.Omega.{arith}
 use Rattle.locals.proofs.mark_outs.Goals as goal
 

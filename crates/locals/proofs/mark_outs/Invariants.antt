@@ -1,12 +1,9 @@
 use Rattle.kinds.specs.Names.{most_places}
-use Rattle.model.specs.Outlist.{out_one, out_bits}
-use Rattle.model.specs.Questions.{collect}
-use Rattle.loops.proofs.Turns.{each_none, each_more, each_done}
+use Rattle.model.specs.Outlist.{out_one}
 use Rattle.loops.specs.Loop.{each}
-use lib.ListN.{length, replicate, length-replicate}
-use mathlib.Core.Path.{◌≡◌, ◌∙◌}
-use Prim.Native.Nat.{ℕ, ◌*◌, ◌≤◌, ◌-◌}
-use native.Mathlib.Omega.{arith}
+use lib.ListN.{length, replicate}
+use mathlib.Core.Path.{◌≡◌}
+use Prim.Native.Nat.{◌*◌, ◌≤◌, ◌-◌}
 use Rattle.locals.proofs.mark_outs.Given as goal
 
 abbrev pub invariant-loop-f : goal.invariant-loop-f

@@ -1,11 +1,7 @@
 -- `locals::note_counted` meets its contract. Assumes nothing. After k turns the objects of the first k slots are noted that foreign fields name.
 use Rattle.todo.proofs.Noting.{more_none, more_then}
-use Rattle.todo.specs.Notes.{More}
-use Rattle.locals.specs.Slots.{named_one}
 use Rattle.loops.proofs.Turns.{each_none, each_more, each_done}
-use Rattle.loops.specs.Loop.{each}
-use mathlib.Core.Path.{◌≡◌, ◌∙◌}
-use Prim.Native.Nat.{◌*◌, ◌≤◌, ◌-◌}
+use mathlib.Core.Path.{◌∙◌}
 use borrow.Author.Rules.{rules}
 use Rattle.locals.proofs.note_counted.Goals as goal
 

@@ -1,11 +1,8 @@
-use Rattle.todo.proofs.Noting.{more_none, more_then}
 use Rattle.todo.specs.Notes.{More}
 use Rattle.locals.specs.Slots.{named_one}
-use Rattle.loops.proofs.Turns.{each_none, each_more, each_done}
 use Rattle.loops.specs.Loop.{each}
-use mathlib.Core.Path.{◌≡◌, ◌∙◌}
+use mathlib.Core.Path.{◌≡◌}
 use Prim.Native.Nat.{◌*◌, ◌≤◌, ◌-◌}
-use borrow.Author.Rules.{rules}
 use Rattle.locals.proofs.note_counted.Given as goal
 
 abbrev pub invariant-loop-k : goal.invariant-loop-k

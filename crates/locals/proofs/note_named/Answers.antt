@@ -5,7 +5,6 @@ use Rattle.todo.proofs.Noting.{more_none}
 use Rattle.image.proofs.Within.{has_word}
 use mathlib.Core.Path.{◌∙◌}
 use native.Mathlib.Omega.{arith}
-use borrow.Author.Rules.{rules}
 use Rattle.locals.proofs.note_named.Goals as goal
 
 pub overflow_mul-lo : goal.overflow_mul-lo

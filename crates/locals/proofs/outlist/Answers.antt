@@ -1,7 +1,6 @@
 -- `locals::outlist` meets its contract. Assumes nothing.
 use Rattle.locals.proofs.Outing.{gathers, out_listed}
 use mathlib.Core.Path.{◌∙◌}
-use borrow.Author.Rules.{rules}
 use Rattle.locals.proofs.outlist.Goals as goal
 
 pub gather-requires : goal.gather-requires

@@ -2,7 +2,6 @@
 use Rattle.model.proofs.Naming.{name_small}
 use Rattle.locals.proofs.Naming.{put_none, put_room, put_one}
 use native.Mathlib.Omega.{arith}
-use borrow.Author.Rules.{rules}
 use Rattle.locals.proofs.put_name.Goals as goal
 
 pub returns-then-bits-i-ne1 : goal.returns-then-bits-i-ne1

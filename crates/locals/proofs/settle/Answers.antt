@@ -2,7 +2,6 @@
 use Rattle.locals.proofs.Freeing.{settle_noted, settle_lost}
 use Rattle.image.proofs.Within.{places}
 use native.Mathlib.Omega.{arith}
-use borrow.Author.Rules.{rules}
 use Rattle.locals.proofs.settle.Goals as goal
 
 pub offset_bounds-marks-j : goal.offset_bounds-marks-j

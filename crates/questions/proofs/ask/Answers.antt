@@ -7,7 +7,6 @@ use Rattle.model.specs.Questions.{ask}
 use Prim.Native.Nat.{◌<◌}
 use native.Mathlib.Omega.{arith}
 use mathlib.Core.Path.{◌∙◌, ap}
-use borrow.Author.Rules.{rules}
 use Rattle.questions.proofs.ask.Goals as goal
 
 pub place-j-requires : goal.place-j-requires

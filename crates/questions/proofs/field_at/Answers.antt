@@ -1,7 +1,6 @@
 -- `questions::field_at` meets its contract. Assumes nothing.
 use Rattle.kinds.specs.Names.{target_of}
 use mathlib.Core.Path.{ap, ◌∙◌}
-use borrow.Author.Rules.{rules}
 use Rattle.questions.proofs.field_at.Goals as goal
 
 pub returns : goal.returns

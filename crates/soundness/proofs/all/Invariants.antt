@@ -1,12 +1,8 @@
 use Rattle.soundness.specs.Checks.{test_at}
-use Rattle.loops.proofs.Turns.{every_none, every_more, every_fails, every_done}
 use Rattle.loops.specs.Loop.{every}
 use mathlib.Core.Bool.{true}
 use mathlib.Core.Path.{◌≡◌}
 use Prim.Native.Nat.{◌≤◌, ◌-◌}
-use native.Mathlib.Omega.{arith}
-use borrow.Author.Tests.{not-true, not-false}
-use borrow.Author.Rules.{rules}
 use Rattle.soundness.proofs.all.Given as goal
 
 abbrev pub invariant-loop-i : goal.invariant-loop-i

@@ -3,14 +3,12 @@
 use Rattle.kinds.specs.Names.{most_places}
 use Rattle.soundness.proofs.Tallying.{places, count_is}
 use Rattle.loops.proofs.Turns.{every_none, every_more, every_fails, every_done}
-use Rattle.loops.specs.Loop.{every}
 use Rattle.model.specs.Image.{inlist}
 use Rattle.model.proofs.Keys.{has}
 use Rattle.model.specs.Sound.{in_count, count_ok}
 use lib.ListN.{get_or}
-use mathlib.Core.Bool.{true}
 use mathlib.Core.Path.{◌≡◌, sym, ◌∙◌}
-use Prim.Native.Nat.{◌*◌, ◌≤◌, ◌<◌, ◌-◌}
+use Prim.Native.Nat.{◌*◌, ◌<◌}
 use native.Mathlib.Omega.{arith}
 use borrow.Author.Tests.{eq-eqb, ne_eqb}
 use Rattle.soundness.proofs.counted.Goals as goal

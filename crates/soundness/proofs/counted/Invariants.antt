@@ -1,16 +1,8 @@
-use Rattle.kinds.specs.Names.{most_places}
-use Rattle.soundness.proofs.Tallying.{places, count_is}
-use Rattle.loops.proofs.Turns.{every_none, every_more, every_fails, every_done}
 use Rattle.loops.specs.Loop.{every}
-use Rattle.model.specs.Image.{inlist}
-use Rattle.model.proofs.Keys.{has}
-use Rattle.model.specs.Sound.{in_count, count_ok}
-use lib.ListN.{get_or}
+use Rattle.model.specs.Sound.{count_ok}
 use mathlib.Core.Bool.{true}
-use mathlib.Core.Path.{◌≡◌, sym, ◌∙◌}
-use Prim.Native.Nat.{◌*◌, ◌≤◌, ◌<◌, ◌-◌}
-use native.Mathlib.Omega.{arith}
-use borrow.Author.Tests.{eq-eqb, ne_eqb}
+use mathlib.Core.Path.{◌≡◌}
+use Prim.Native.Nat.{◌*◌, ◌≤◌, ◌-◌}
 use Rattle.soundness.proofs.counted.Given as goal
 
 abbrev pub invariant-loop-j : goal.invariant-loop-j

@@ -10,7 +10,6 @@ use Rattle.model.proofs.Soundness.{ref_nothing, ref_not}
 use Rattle.image.proofs.Within.{word_in, part_word}
 use Rattle.soundness.proofs.Rows.{ref_used}
 use Rattle.soundness.proofs.Tallying.{places, fails, tally_room, tallied_nothing, tallied_more}
-use borrow.Author.Rules.{rules}
 use Rattle.soundness.proofs.field.Goals as goal
 
 pub field_at-w-requires : goal.field_at-w-requires

@@ -1,17 +1,9 @@
 -- `soundness::fields` meets its contract. Assumes nothing. After k turns the first k fields are tested and tallied.
 use Rattle.soundness.proofs.Tallying.{fails, tallied_at}
 use Rattle.loops.proofs.Turns.{every_none, every_more, every_fails, every_done}
-use Rattle.loops.specs.Loop.{every}
-use Rattle.model.specs.Image.{field}
-use Rattle.model.specs.Sound.{ref_ok}
-use Rattle.soundness.specs.Checks.{Tallied}
-use mathlib.Core.Bool.{true}
-use mathlib.Core.Path.{◌≡◌, sym}
-use Prim.Native.Nat.{◌+◌, ◌*◌, ◌≤◌, ◌-◌}
+use mathlib.Core.Path.{sym}
 use native.Mathlib.Omega.{arith}
-use borrow.Author.Tests.{not-false}
-use Rattle.loops.proofs.Tests.{granted, denied}
-use borrow.Author.Rules.{rules}
+use Rattle.loops.proofs.Tests.{told_true, told_false}
 use Rattle.soundness.proofs.fields.Goals as goal
 
 pub loop-k-init : goal.loop-k-init
@@ -24,11 +16,11 @@ field-ok-requires c =
 
 pub returns-then-not-ok : goal.returns-then-not-ok
 returns-then-not-ok c =
-    fails (sym (every_fails _ 4 c.loop-k.k c.loop-k-test.true (denied c.field-ok.ensures.0 c.if-not-ok.true)))
+    fails (sym (every_fails _ 4 c.loop-k.k c.loop-k-test.true (told_false c.field-ok.ensures.0 c.if-not-ok.true)))
 
 pub loop-k-preserved : goal.loop-k-preserved
 loop-k-preserved c =
-    (omega (arith, c.loop-k-test.true), every_more _ _ c.loop-k.invariant.1 (granted c.field-ok.ensures.0 c.if-not-ok.false), tallied_at _ _ (omega arith) (c.field-ok.ensures.1 c.if-not-ok.false))
+    (omega (arith, c.loop-k-test.true), every_more _ _ c.loop-k.invariant.1 (told_true c.field-ok.ensures.0 c.if-not-ok.false), tallied_at _ _ (omega arith) (c.field-ok.ensures.1 c.if-not-ok.false))
 
 pub returns : goal.returns
 returns c =

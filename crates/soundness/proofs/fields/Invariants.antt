@@ -1,16 +1,10 @@
-use Rattle.soundness.proofs.Tallying.{fails, tallied_at}
-use Rattle.loops.proofs.Turns.{every_none, every_more, every_fails, every_done}
 use Rattle.loops.specs.Loop.{every}
 use Rattle.model.specs.Image.{field}
 use Rattle.model.specs.Sound.{ref_ok}
 use Rattle.soundness.specs.Checks.{Tallied}
 use mathlib.Core.Bool.{true}
-use mathlib.Core.Path.{◌≡◌, sym}
+use mathlib.Core.Path.{◌≡◌}
 use Prim.Native.Nat.{◌+◌, ◌*◌, ◌≤◌, ◌-◌}
-use native.Mathlib.Omega.{arith}
-use borrow.Author.Tests.{not-false}
-use Rattle.loops.proofs.Tests.{granted, denied}
-use borrow.Author.Rules.{rules}
 use Rattle.soundness.proofs.fields.Given as goal
 
 abbrev pub invariant-loop-k : goal.invariant-loop-k

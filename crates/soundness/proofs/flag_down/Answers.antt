@@ -1,7 +1,6 @@
 -- `soundness::flag_down` meets its contract. Assumes nothing.
 use Rattle.model.specs.Sound.{flag_down}
 use borrow.Author.Tests.{eq-eqb, ne_eqb}
-use borrow.Author.Rules.{rules}
 use Rattle.soundness.proofs.flag_down.Goals as goal
 
 pub returns-then-flag_at-eq0 : goal.returns-then-flag_at-eq0

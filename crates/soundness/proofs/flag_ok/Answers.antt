@@ -1,7 +1,6 @@
 -- `soundness::flag_ok` meets its contract. Assumes nothing.
 use Rattle.model.specs.Sound.{flag_ok}
 use borrow.Author.Tests.{eq-eqb, ne_eqb, lt-ltb, le-ltb, le-leb, lt-leb}
-use borrow.Author.Rules.{rules}
 use Rattle.soundness.proofs.flag_ok.Goals as goal
 
 pub returns-then-x-gt1 : goal.returns-then-x-gt1

@@ -1,17 +1,12 @@
 -- `soundness::free_ok` meets its contract. Assumes nothing. After k turns the first k fields are 0.
 use Rattle.soundness.proofs.Tallying.{free_not}
 use Rattle.loops.proofs.Turns.{every_none, every_more, every_done}
-use Rattle.loops.specs.Loop.{every}
 use Rattle.model.specs.Image.{payload, field, get}
 use Rattle.model.specs.Sound.{free_ok}
 use Rattle.model.proofs.Keys.{has}
-use lib.Dec.{eqb}
-use mathlib.Core.Bool.{true}
 use mathlib.Core.Path.{◌≡◌, sym, ◌∙◌}
-use Prim.Native.Nat.{◌≤◌, ◌-◌}
 use native.Mathlib.Omega.{arith}
 use borrow.Author.Tests.{eq-eqb}
-use borrow.Author.Rules.{rules}
 use Rattle.soundness.proofs.free_ok.Goals as goal
 
 pub payload_at-requires : goal.payload_at-requires

@@ -1,16 +1,9 @@
-use Rattle.soundness.proofs.Tallying.{free_not}
-use Rattle.loops.proofs.Turns.{every_none, every_more, every_done}
 use Rattle.loops.specs.Loop.{every}
-use Rattle.model.specs.Image.{payload, field, get}
-use Rattle.model.specs.Sound.{free_ok}
-use Rattle.model.proofs.Keys.{has}
+use Rattle.model.specs.Image.{field, get}
 use lib.Dec.{eqb}
 use mathlib.Core.Bool.{true}
-use mathlib.Core.Path.{◌≡◌, sym, ◌∙◌}
+use mathlib.Core.Path.{◌≡◌}
 use Prim.Native.Nat.{◌≤◌, ◌-◌}
-use native.Mathlib.Omega.{arith}
-use borrow.Author.Tests.{eq-eqb}
-use borrow.Author.Rules.{rules}
 use Rattle.soundness.proofs.free_ok.Given as goal
 
 abbrev pub invariant-loop-k : goal.invariant-loop-k

@@ -5,7 +5,6 @@ use Rattle.model.proofs.Keys.{has}
 use Rattle.model.specs.Image.{count, allowance}
 use mathlib.Core.Path.{sym}
 use native.Mathlib.Omega.{arith}
-use borrow.Author.Rules.{rules}
 use Rattle.soundness.proofs.open_ok.Goals as goal
 
 pub head_at-a-requires : goal.head_at-a-requires

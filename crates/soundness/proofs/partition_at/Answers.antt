@@ -3,7 +3,6 @@ use Rattle.soundness.proofs.Tallying.{part_small, next_part}
 use Rattle.model.proofs.Places.{row_part}
 use mathlib.Core.Path.{sym}
 use native.Mathlib.Omega.{arith}
-use borrow.Author.Rules.{rules}
 use Rattle.soundness.proofs.partition_at.Goals as goal
 
 pub overflow_add-q : goal.overflow_add-q

@@ -8,7 +8,6 @@ use Rattle.model.proofs.Keys.{has}
 use borrow.Author.Tests.{ne_eqb}
 use mathlib.Core.Path.{sym, ◌∙◌}
 use native.Mathlib.Omega.{arith}
-use borrow.Author.Rules.{rules}
 use Rattle.soundness.proofs.ref_ok.Goals as goal
 
 pub returns-then-w-eq0 : goal.returns-then-w-eq0

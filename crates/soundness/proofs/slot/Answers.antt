@@ -3,7 +3,6 @@ use Rattle.soundness.proofs.Tallying.{fails, slot_free, slot_unknown, slot_used,
 use Rattle.model.specs.Image.{state}
 use Rattle.model.proofs.Keys.{has}
 use mathlib.Core.Path.{sym, ◌∙◌}
-use borrow.Author.Rules.{rules}
 use Rattle.soundness.proofs.slot.Goals as goal
 
 pub state_at-x-requires : goal.state_at-x-requires

@@ -1,16 +1,10 @@
 -- `soundness::slots` meets its contract. Assumes nothing. After j turns the first j places are tested, and their foreign references tallied.
 use Rattle.soundness.proofs.Tallying.{places, fails, tallied_none, tallied_at}
 use Rattle.loops.proofs.Turns.{every_none, every_more, every_fails, every_done}
-use Rattle.loops.specs.Loop.{every}
-use Rattle.model.specs.Sound.{slot_ok}
-use Rattle.soundness.specs.Checks.{Tallied}
-use mathlib.Core.Bool.{true}
-use mathlib.Core.Path.{◌≡◌, sym}
-use Prim.Native.Nat.{◌+◌, ◌*◌, ◌≤◌, ◌-◌}
+use mathlib.Core.Path.{sym}
 use native.Mathlib.Nat.{zero-mul}
 use native.Mathlib.Omega.{arith}
-use borrow.Author.Tests.{not-false}
-use Rattle.loops.proofs.Tests.{granted, denied}
+use Rattle.loops.proofs.Tests.{told_true, told_false}
 use Rattle.soundness.proofs.slots.Goals as goal
 
 pub overflow_mul-n : goal.overflow_mul-n
@@ -32,7 +26,7 @@ slot-ok-requires c =
 
 pub returns-then-not-ok : goal.returns-then-not-ok
 returns-then-not-ok c =
-    fails (sym (every_fails _ _ c.loop-j.j c.loop-j-test.true (denied c.slot-ok.ensures.0 c.if-not-ok.true)))
+    fails (sym (every_fails _ _ c.loop-j.j c.loop-j-test.true (told_false c.slot-ok.ensures.0 c.if-not-ok.true)))
 
 pub overflow_add-j : goal.overflow_add-j
 overflow_add-j c =
@@ -46,7 +40,7 @@ pub loop-j-preserved : goal.loop-j-preserved
 loop-j-preserved c =
     let q = c.partition_at-q.ensures in (
       omega (arith, c.loop-j-test.true),
-      every_more _ _ c.loop-j.invariant.1 (granted c.slot-ok.ensures.0 c.if-not-ok.false),
+      every_more _ _ c.loop-j.invariant.1 (told_true c.slot-ok.ensures.0 c.if-not-ok.false),
       c.slot-ok.ensures.1 c.if-not-ok.false,
       omega (arith, q.1),
       omega (arith, q.2),

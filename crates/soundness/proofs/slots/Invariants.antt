@@ -1,15 +1,9 @@
-use Rattle.soundness.proofs.Tallying.{places, fails, tallied_none, tallied_at}
-use Rattle.loops.proofs.Turns.{every_none, every_more, every_fails, every_done}
 use Rattle.loops.specs.Loop.{every}
 use Rattle.model.specs.Sound.{slot_ok}
 use Rattle.soundness.specs.Checks.{Tallied}
 use mathlib.Core.Bool.{true}
-use mathlib.Core.Path.{◌≡◌, sym}
+use mathlib.Core.Path.{◌≡◌}
 use Prim.Native.Nat.{◌+◌, ◌*◌, ◌≤◌, ◌-◌}
-use native.Mathlib.Nat.{zero-mul}
-use native.Mathlib.Omega.{arith}
-use borrow.Author.Tests.{not-false}
-use Rattle.loops.proofs.Tests.{granted, denied}
 use Rattle.soundness.proofs.slots.Given as goal
 
 abbrev pub invariant-loop-j : goal.invariant-loop-j

@@ -1,25 +1,24 @@
 -- `soundness::sound` meets its contract. Assumes nothing. What format refuses is not sound.
 use Rattle.soundness.proofs.Rows.{sound_front, shaped_image, format_unsound}
-use Rattle.loops.proofs.Tests.{granted, denied}
+use Rattle.loops.proofs.Tests.{told_true, told_false}
 use Rattle.image.proofs.Within.{has_head}
 use Rattle.model.proofs.Soundness.{sound_not}
 use Rattle.model.specs.Sound.{is_sound}
 use mathlib.Core.Path.{sym, ◌∙◌}
 use native.Mathlib.Omega.{arith}
-use borrow.Author.Rules.{rules}
 use Rattle.soundness.proofs.sound.Goals as goal
 
 pub returns-then-not-has_front : goal.returns-then-not-has_front
 returns-then-not-has_front c =
-    sym (sound_not _ (sound_front _ (denied c.has_front.ensures c.if-not-has_front.true)))
+    sym (sound_not _ (sound_front _ (told_false c.has_front.ensures c.if-not-has_front.true)))
 
 pub head_at-p-requires : goal.head_at-p-requires
 head_at-p-requires c =
-    has_head _ (granted c.has_front.ensures c.if-not-has_front.false) 0 (omega arith)
+    has_head _ (told_true c.has_front.ensures c.if-not-has_front.false) 0 (omega arith)
 
 pub head_at-s-requires : goal.head_at-s-requires
 head_at-s-requires c =
-    has_head _ (granted c.has_front.ensures c.if-not-has_front.false) 1 (omega arith)
+    has_head _ (told_true c.has_front.ensures c.if-not-has_front.false) 1 (omega arith)
 
 pub sound_at-requires : goal.sound_at-requires
 sound_at-requires c =

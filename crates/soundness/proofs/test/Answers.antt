@@ -3,7 +3,6 @@ use Rattle.model.specs.Sound.{anchor_ok}
 use Rattle.model.specs.Image.{anchor, flag, state}
 use Rattle.model.proofs.Keys.{has}
 use mathlib.Core.Path.{sym}
-use borrow.Author.Rules.{rules}
 use Rattle.soundness.proofs.test.Goals as goal
 
 pub anchor_at-requires : goal.anchor_at-requires

@@ -1,7 +1,6 @@
 -- `soundness::unmarked` meets its contract. Assumes nothing.
 use Rattle.model.specs.Sound.{unmarked_at}
 use borrow.Author.Tests.{eq-eqb, ne_eqb}
-use borrow.Author.Rules.{rules}
 use Rattle.soundness.proofs.unmarked.Goals as goal
 
 pub returns-then-state_at-eq2 : goal.returns-then-state_at-eq2

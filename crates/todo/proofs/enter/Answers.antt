@@ -1,7 +1,6 @@
 -- `todo::enter` meets its contract. Assumes nothing.
 use Rattle.todo.proofs.Noting.{enter_old, enter_room, enter_new}
 use native.Mathlib.Omega.{arith}
-use borrow.Author.Rules.{rules}
 use Rattle.todo.proofs.enter.Goals as goal
 
 pub returns-then-marks-j-eq1 : goal.returns-then-marks-j-eq1

@@ -2,7 +2,6 @@
 use Rattle.todo.proofs.Noting.{more_none, note_nothing, word_below, word_past, word_in}
 use mathlib.Core.Path.{◌∙◌}
 use native.Mathlib.Omega.{arith}
-use borrow.Author.Rules.{rules}
 use Rattle.todo.proofs.note.Goals as goal
 
 pub returns-then-w-eq0 : goal.returns-then-w-eq0

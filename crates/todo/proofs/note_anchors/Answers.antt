@@ -1,10 +1,7 @@
 -- `todo::note_anchors` meets its contract. Assumes nothing. After i turns the first i roots are noted.
-use Rattle.todo.proofs.Noting.{more_none, more_then, anchors_noted, anchors_none, anchors_more, anchors_done}
-use Rattle.todo.specs.Notes.{More}
+use Rattle.todo.proofs.Noting.{more_none, more_then, anchors_none, anchors_more, anchors_done}
 use Rattle.image.proofs.Within.{has_word}
-use Rattle.model.specs.Image.{anchor, anchors}
-use Prim.Native.Nat.{◌-◌, ◌≤◌}
-use mathlib.Core.Path.{◌≡◌}
+use Rattle.model.specs.Image.{anchor}
 use native.Mathlib.Omega.{arith}
 use borrow.Author.Rules.{rules}
 use Rattle.todo.proofs.note_anchors.Goals as goal

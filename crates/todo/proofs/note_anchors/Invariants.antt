@@ -1,11 +1,8 @@
-use Rattle.todo.proofs.Noting.{more_none, more_then, anchors_noted, anchors_none, anchors_more, anchors_done}
+use Rattle.todo.proofs.Noting.{anchors_noted}
 use Rattle.todo.specs.Notes.{More}
-use Rattle.image.proofs.Within.{has_word}
-use Rattle.model.specs.Image.{anchor, anchors}
+use Rattle.model.specs.Image.{anchors}
 use Prim.Native.Nat.{◌-◌, ◌≤◌}
 use mathlib.Core.Path.{◌≡◌}
-use native.Mathlib.Omega.{arith}
-use borrow.Author.Rules.{rules}
 use Rattle.todo.proofs.note_anchors.Given as goal
 
 abbrev pub invariant-loop-i : goal.invariant-loop-i

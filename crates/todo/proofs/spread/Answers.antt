@@ -1,10 +1,7 @@
 -- `todo::spread` meets its contract. Assumes nothing. Of the list's places the first `at` are visited: `Spreading`, the theory of walks at work.
-use Rattle.kinds.specs.Names.{most_places}
 use Rattle.todo.proofs.Noting.{noted_most}
-use Rattle.todo.proofs.Leading.{Spreading, spreading_first, next_in, spreading_next, spreading_done}
-use Prim.Native.Nat.{◌-◌}
+use Rattle.todo.proofs.Leading.{spreading_first, next_in, spreading_next, spreading_done}
 use native.Mathlib.Omega.{arith}
-use borrow.Author.Rules.{rules}
 use Rattle.todo.proofs.spread.Goals as goal
 
 pub loop-at-init : goal.loop-at-init

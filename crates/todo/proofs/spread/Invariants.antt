@@ -1,9 +1,6 @@
 use Rattle.kinds.specs.Names.{most_places}
-use Rattle.todo.proofs.Noting.{noted_most}
-use Rattle.todo.proofs.Leading.{Spreading, spreading_first, next_in, spreading_next, spreading_done}
+use Rattle.todo.proofs.Leading.{Spreading}
 use Prim.Native.Nat.{◌-◌}
-use native.Mathlib.Omega.{arith}
-use borrow.Author.Rules.{rules}
 use Rattle.todo.proofs.spread.Given as goal
 
 abbrev pub invariant-loop-at : goal.invariant-loop-at

@@ -4,7 +4,6 @@ use Rattle.image.proofs.Within.{has_word}
 use Rattle.model.specs.Image.{Has, field}
 use Prim.Native.Nat.{ℕ, ◌<◌}
 use native.Mathlib.Omega.{arith}
-use borrow.Author.Rules.{rules}
 use Rattle.todo.proofs.visit.Goals as goal
 
 pub field_at-v-requires : goal.field_at-v-requires

@@ -5,7 +5,6 @@ use Rattle.model.specs.Image.{state, place_of}
 use Rattle.image.proofs.Within.{has_word}
 use native.Mathlib.Omega.{arith}
 use borrow.Author.Tests.{eq-eqb, ne_eqb}
-use borrow.Author.Rules.{rules}
 use Rattle.verdicts.proofs.astray.Goals as goal
 
 pub returns-then-w-eq0 : goal.returns-then-w-eq0

@@ -1,11 +1,7 @@
-use Rattle.loops.proofs.Walks.{first_here, first_on, first_end}
 use Rattle.verdicts.specs.Searches.{meets}
 use Rattle.loops.specs.Loop.{first}
-use native.Mathlib.Nat.{lt_of_lt_of_le}
-use native.Mathlib.Omega.{arith}
-use mathlib.Core.Path.{◌≡◌, sym, ap, ◌∙◌}
-use Prim.Native.Nat.{ℕ, ◌≤◌, ◌-◌}
-use borrow.Author.Rules.{rules}
+use mathlib.Core.Path.{◌≡◌}
+use Prim.Native.Nat.{◌≤◌, ◌-◌}
 use Rattle.verdicts.proofs.first.Given as goal
 
 abbrev pub invariant-loop-i : goal.invariant-loop-i

@@ -1,5 +1,4 @@
 -- `verdicts::judge` meets its contract. Assumes nothing.
-use borrow.Author.Rules.{rules}
 use Rattle.verdicts.proofs.judge.Goals as goal
 
 pub returns-in-Open : goal.returns-in-Open

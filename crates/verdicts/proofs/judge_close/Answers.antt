@@ -2,7 +2,7 @@
 -- The checks in the paper's order; what each search found is what the model's test says (Searches).
 use mathlib.Core.Bool.{true}
 use lib.Dec.{eqb}
-use Rattle.loops.proofs.Tests.{granted, denied}
+use Rattle.loops.proofs.Tests.{told_true, told_false}
 use Rattle.model.specs.Acts.{not_clean}
 use Rattle.verdicts.proofs.Searches.{lowest_is, unclean_some, unclean_none}
 use Rattle.verdicts.proofs.Checks.{passes, stops}
@@ -27,12 +27,12 @@ returns-then-head_at-ne1 c =
 pub returns-then-not-r : goal.returns-then-not-r
 unfolding judge
 returns-then-not-r c =
-    passes _ _ (omega (arith, eq-eqb)) (stops _ (denied c.rooted-r.ensures c.if-not-r.true) c.refuse-then-not-r.ensures)
+    passes _ _ (omega (arith, eq-eqb)) (stops _ (told_false c.rooted-r.ensures c.if-not-r.true) c.refuse-then-not-r.ensures)
 
 pub returns-then-q-p : goal.returns-then-q-p
 unfolding judge
 returns-then-q-p c =
-    let roots-are : rooted c.args.img.now ≡ true = granted c.rooted-r.ensures c.if-not-r.false in
+    let roots-are : rooted c.args.img.now ≡ true = told_true c.rooted-r.ensures c.if-not-r.false in
     let a = c.args in
     passes _ _ (omega (arith, eq-eqb)) (passes _ _ (roots-are) (stops _ (unclean_some a.s a.img.now a.p (search rules))
     (rw (← (lowest_is a.s a.img.now a.p), ← c.first-q.ensures) c.refuse-then-q-p.ensures)))
@@ -40,13 +40,13 @@ returns-then-q-p c =
 pub returns-then-not-l : goal.returns-then-not-l
 unfolding judge
 returns-then-not-l c =
-    let roots-are : rooted c.args.img.now ≡ true = granted c.rooted-r.ensures c.if-not-r.false in
+    let roots-are : rooted c.args.img.now ≡ true = told_true c.rooted-r.ensures c.if-not-r.false in
     let cleaned : let a = c.args in eqb (not_clean a.p a.img.now) 0 ≡ true = unclean_none c.args.s _ _ (search rules) in
-    passes _ _ (omega (arith, eq-eqb)) (passes _ _ (roots-are) (passes _ _ (cleaned) (stops _ (denied c.led-l.ensures c.if-not-l.true) c.refuse-then-not-l.ensures)))
+    passes _ _ (omega (arith, eq-eqb)) (passes _ _ (roots-are) (passes _ _ (cleaned) (stops _ (told_false c.led-l.ensures c.if-not-l.true) c.refuse-then-not-l.ensures)))
 
 pub returns : goal.returns
 unfolding judge
 returns c =
-    let roots-are : rooted c.args.img.now ≡ true = granted c.rooted-r.ensures c.if-not-r.false in
+    let roots-are : rooted c.args.img.now ≡ true = told_true c.rooted-r.ensures c.if-not-r.false in
     let cleaned : let a = c.args in eqb (not_clean a.p a.img.now) 0 ≡ true = unclean_none c.args.s _ _ (search rules) in
-    passes _ _ (omega (arith, eq-eqb)) (passes _ _ (roots-are) (passes _ _ (cleaned) (passes _ _ (granted c.led-l.ensures c.if-not-l.false) refl)))
+    passes _ _ (omega (arith, eq-eqb)) (passes _ _ (roots-are) (passes _ _ (cleaned) (passes _ _ (told_true c.led-l.ensures c.if-not-l.false) refl)))

@@ -4,7 +4,6 @@ use Rattle.model.specs.Judge.{judge}
 use native.Mathlib.Omega.{arith}
 use mathlib.Core.Path.{refl}
 use borrow.Author.Tests.{lt-ltb, le-ltb}
-use borrow.Author.Rules.{rules}
 use Rattle.verdicts.proofs.judge_drop.Goals as goal
 
 pub returns-then-h-ge-LIMIT : goal.returns-then-h-ge-LIMIT

@@ -3,7 +3,6 @@ use Rattle.verdicts.proofs.Checks.{passes, stops}
 use Rattle.model.specs.Judge.{judge}
 use native.Mathlib.Omega.{arith}
 use borrow.Author.Tests.{lt-ltb, le-ltb}
-use borrow.Author.Rules.{rules}
 use Rattle.verdicts.proofs.judge_hold.Goals as goal
 
 pub returns-then-h-ge-LIMIT : goal.returns-then-h-ge-LIMIT

@@ -6,7 +6,6 @@ use Prim.Native.Nat.{◌*◌, ◌<◌}
 use lib.Arith.{digits_lt}
 use mathlib.Core.Path.{◌∙◌}
 use native.Mathlib.Omega.{arith}
-use borrow.Author.Rules.{rules}
 use Rattle.verdicts.proofs.judge_name.Goals as goal
 
 pub returns-then-p-n : goal.returns-then-p-n

@@ -1,12 +1,11 @@
 -- `verdicts::judge_open` meets its contract. Assumes nothing.
-use Rattle.loops.proofs.Tests.{eq_not, ne_not, granted, denied}
+use Rattle.loops.proofs.Tests.{eq_not, ne_not, told_true, told_false}
 use Rattle.verdicts.proofs.Checks.{passes, stops}
 use Rattle.model.specs.Judge.{judge}
 use Rattle.model.specs.Image.{phase}
 use Rattle.image.proofs.Within.{has_word}
 use native.Mathlib.Omega.{arith}
 use mathlib.Core.Path.{refl}
-use borrow.Author.Rules.{rules}
 use Rattle.verdicts.proofs.judge_open.Goals as goal
 
 pub head_at-requires : goal.head_at-requires
@@ -21,9 +20,9 @@ returns-then-head_at-eq1 c =
 pub returns-then-not-r : goal.returns-then-not-r
 unfolding judge
 returns-then-not-r c =
-    passes _ _ (omega (arith, ne_not)) (stops _ (denied c.rooted-r.ensures c.if-not-r.true) c.refuse-then-not-r.ensures)
+    passes _ _ (omega (arith, ne_not)) (stops _ (told_false c.rooted-r.ensures c.if-not-r.true) c.refuse-then-not-r.ensures)
 
 pub returns : goal.returns
 unfolding judge
 returns c =
-    passes _ _ (omega (arith, ne_not)) (passes _ _ (granted c.rooted-r.ensures c.if-not-r.false) refl)
+    passes _ _ (omega (arith, ne_not)) (passes _ _ (told_true c.rooted-r.ensures c.if-not-r.false) refl)

@@ -8,7 +8,6 @@ use Rattle.image.proofs.Within.{has_word}
 use native.Mathlib.Omega.{arith}
 use mathlib.Core.Path.{refl}
 use borrow.Author.Tests.{eq-eqb, ne_eqb, lt-ltb, le-ltb}
-use borrow.Author.Rules.{rules}
 use Rattle.verdicts.proofs.judge_trace.Goals as goal
 
 pub head_at-phase-requires : goal.head_at-phase-requires

@@ -6,7 +6,6 @@ use Rattle.image.proofs.Within.{has_word}
 use native.Mathlib.Omega.{arith}
 use Prim.Native.Nat.{◌<◌}
 use borrow.Author.Tests.{eq-eqb, ne_eqb}
-use borrow.Author.Rules.{rules}
 use Rattle.verdicts.proofs.meets.Goals as goal
 
 pub anchor_at-requires : goal.anchor_at-requires

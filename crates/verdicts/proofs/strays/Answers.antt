@@ -1,16 +1,14 @@
 -- `verdicts::strays` meets its contract. Assumes nothing. After k turns the first k fields lead to marked objects.
-use Prim.Native.Nat.{ℕ, ◌≤◌, ◌-◌}
+use Prim.Native.Nat.{ℕ}
 use native.Mathlib.Omega.{arith}
 use mathlib.Core.Path.{◌≡◌, sym, ◌∙◌, subst}
-use mathlib.Core.Bool.{Bool, true, false, not}
+use mathlib.Core.Bool.{true, false, not}
 use borrow.Author.Tests.{eq-eqb, ne_eqb, not-true, not-false}
 use Rattle.loops.specs.Loop.{every}
 use Rattle.loops.proofs.Turns.{every_none, every_more, every_fails}
-use Rattle.model.specs.Judge.{leads_on}
-use Rattle.model.specs.Image.{Image, state, field, a_field}
+use Rattle.model.specs.Image.{state, field, a_field}
 use Rattle.image.proofs.Within.{has_word}
 use Rattle.verdicts.specs.Searches.{astray, strays}
-use borrow.Author.Rules.{rules}
 use Rattle.verdicts.proofs.strays.Invariants.{on}
 use Rattle.verdicts.proofs.strays.Goals as goal
 
