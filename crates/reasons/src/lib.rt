@@ -5,6 +5,8 @@
 // Cost: each anchor is looked at once, and each field once, at the level of its place, if this is met before the object; then, for a chain of k
 // references, the fields of its k places and the anchors once more. That is at most 4 n + 4 k + 96 looks at the image for n places. A place that is new
 // moves past those of its row that are higher: at most 3 for a field, 47 for an anchor. Stack: 16 KB for two tables of 2,048 words.
+#![tactic(auto)]
+
 ghost use Rattle.std.specs.Prelude.{◌≡◌, ◌≢◌, List, ℕ, ◌+◌, ◌*◌, ◌-◌, ◌/◌, ◌≤◌, ◌<◌, length, set};
 ghost use Rattle.kinds.specs.Names.{most_partitions, most_slots, most_places};
 ghost use Rattle.model.specs.Image.{anchors, place_of};

@@ -1,9 +1,8 @@
 -- `reasons::depth` meets its contract. Assumes nothing. After k turns k references are counted, and row v is that of the place come to.
-use Rattle.reasons.proofs.Climbing.{Counting, counting_first, counting_place, counting_less, counting_more, counting_end}
+use Rattle.reasons.proofs.Climbing.{counting_first, counting_place, counting_less, counting_more, counting_end}
 use Rattle.kinds.specs.Names.{most_places}
 use Prim.Native.Nat.{◌<◌}
 use native.Mathlib.Omega.{arith}
-use borrow.Author.Rules.{rules}
 use Rattle.reasons.proofs.depth.Goals as goal
 
 pub loop-v-init : goal.loop-v-init

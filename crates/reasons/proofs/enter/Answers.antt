@@ -3,7 +3,6 @@ use native.Mathlib.Omega.{arith}
 use Rattle.reasons.proofs.Queueing.{enter_room}
 use Rattle.reasons.specs.Queue.{again, anew}
 use mathlib.Core.Path.{refl}
-use borrow.Author.Rules.{rules}
 use Rattle.reasons.proofs.enter.Goals as goal
 
 pub returns-then-rows-j-gt0 : goal.returns-then-rows-j-gt0

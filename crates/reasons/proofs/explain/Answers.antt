@@ -6,7 +6,6 @@ use Rattle.holding.specs.Finding.{start_of}
 use Rattle.image.proofs.Within.{places}
 use native.Mathlib.Omega.{arith}
 use mathlib.Core.Path.{◌∙◌, ap}
-use borrow.Author.Rules.{rules}
 use Rattle.reasons.proofs.explain.Goals as goal
 
 pub spread-n-requires : goal.spread-n-requires

@@ -1,10 +1,9 @@
 -- `reasons::fill` meets its contract. Assumes nothing. Before each turn the words of the i references up from j are still to be written.
-use Rattle.reasons.proofs.Climbing.{has_name, Filling, filling_first, filling_at, filling_row, filling_in, filling_place, filling_more, filling_end}
+use Rattle.reasons.proofs.Climbing.{has_name, filling_first, filling_at, filling_row, filling_in, filling_place, filling_more, filling_end}
 use Rattle.kinds.specs.Names.{most_places}
 use Prim.Native.Nat.{◌-◌, ◌<◌}
 use lib.ListN.{length-set}
 use native.Mathlib.Omega.{arith}
-use borrow.Author.Rules.{rules}
 use Rattle.reasons.proofs.fill.Goals as goal
 
 pub loop-i-init : goal.loop-i-init

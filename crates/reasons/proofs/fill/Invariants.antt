@@ -1,9 +1,4 @@
-use Rattle.reasons.proofs.Climbing.{has_name, Filling, filling_first, filling_at, filling_row, filling_in, filling_place, filling_more, filling_end}
-use Rattle.kinds.specs.Names.{most_places}
-use Prim.Native.Nat.{◌-◌, ◌<◌}
-use lib.ListN.{length-set}
-use native.Mathlib.Omega.{arith}
-use borrow.Author.Rules.{rules}
+use Rattle.reasons.proofs.Climbing.{Filling}
 use Rattle.reasons.proofs.fill.Given as goal
 
 abbrev pub invariant-loop-i : goal.invariant-loop-i

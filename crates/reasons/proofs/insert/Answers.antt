@@ -1,8 +1,7 @@
 -- `reasons::insert` meets its contract. Assumes nothing. Behind the place come to, what is higher has moved one up.
 use mathlib.Core.Path.{refl}
 use native.Mathlib.Omega.{arith}
-use Rattle.reasons.proofs.Queueing.{Moving, moving_first, moving_more, moving_end}
-use borrow.Author.Rules.{rules}
+use Rattle.reasons.proofs.Queueing.{moving_first, moving_more, moving_end}
 use Rattle.reasons.proofs.insert.Goals as goal
 
 pub loop-at-init : goal.loop-at-init

@@ -1,7 +1,4 @@
-use mathlib.Core.Path.{refl}
-use native.Mathlib.Omega.{arith}
-use Rattle.reasons.proofs.Queueing.{Moving, moving_first, moving_more, moving_end}
-use borrow.Author.Rules.{rules}
+use Rattle.reasons.proofs.Queueing.{Moving}
 use Rattle.reasons.proofs.insert.Given as goal
 
 abbrev pub invariant-loop-at : goal.invariant-loop-at

@@ -6,7 +6,6 @@ use Rattle.kinds.specs.Names.{word_of}
 use Rattle.kinds.specs.declared.Name.{Name}
 use Rattle.kinds.specs.declared.Target.TheVariants.{Object}
 use Rattle.model.specs.Outlist.{name_at}
-use borrow.Author.Rules.{rules}
 use Rattle.reasons.proofs.name_at.Goals as goal
 
 pub overflow_cast-j-2 : goal.overflow_cast-j-2

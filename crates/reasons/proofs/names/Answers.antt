@@ -1,6 +1,5 @@
 -- `reasons::names` meets its contract. Assumes nothing.
 use borrow.Author.Tests.{eq-eqb, ne_eqb}
-use borrow.Author.Rules.{rules}
 use Rattle.reasons.proofs.names.Goals as goal
 
 pub returns-then-w-eq0 : goal.returns-then-w-eq0

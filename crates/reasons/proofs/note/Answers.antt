@@ -1,7 +1,6 @@
 -- `reasons::note` meets its contract. Assumes nothing.
 use Rattle.reasons.specs.Queue.{nothing, named}
 use mathlib.Core.Path.{refl}
-use borrow.Author.Rules.{rules}
 use Rattle.reasons.proofs.note.Goals as goal
 
 pub returns-then-w-eq0 : goal.returns-then-w-eq0

@@ -1,10 +1,8 @@
 -- `reasons::note_anchors` meets its contract. Assumes nothing. After a turns what the first a anchors name is met.
-use Rattle.reasons.proofs.Queueing.{Part, keyed_anchors, part_first, part_more, part_end, word_in, note_asks}
+use Rattle.reasons.proofs.Queueing.{keyed_anchors, part_first, part_more, part_end, word_in, note_asks}
 use Rattle.image.proofs.Within.{has_word}
-use Rattle.model.specs.Image.{anchor, anchors, an_anchor}
+use Rattle.model.specs.Image.{anchor, an_anchor}
 use native.Mathlib.Omega.{arith}
-use Prim.Native.Nat.{◌*◌, ◌-◌, ◌≤◌}
-use borrow.Author.Rules.{rules}
 use Rattle.reasons.proofs.note_anchors.Goals as goal
 
 pub loop-a-init : goal.loop-a-init

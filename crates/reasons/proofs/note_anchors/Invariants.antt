@@ -1,9 +1,6 @@
-use Rattle.reasons.proofs.Queueing.{Part, keyed_anchors, part_first, part_more, part_end, word_in, note_asks}
-use Rattle.image.proofs.Within.{has_word}
-use Rattle.model.specs.Image.{anchor, anchors, an_anchor}
-use native.Mathlib.Omega.{arith}
+use Rattle.reasons.proofs.Queueing.{Part}
+use Rattle.model.specs.Image.{anchor, anchors}
 use Prim.Native.Nat.{◌*◌, ◌-◌, ◌≤◌}
-use borrow.Author.Rules.{rules}
 use Rattle.reasons.proofs.note_anchors.Given as goal
 
 abbrev pub invariant-loop-a : goal.invariant-loop-a

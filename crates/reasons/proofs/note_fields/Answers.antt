@@ -1,10 +1,9 @@
 -- `reasons::note_fields` meets its contract. Assumes nothing. After k turns what the first k fields name is met.
-use Rattle.reasons.proofs.Queueing.{Part, keyed_fields, part_first, part_more, part_end, word_in, note_asks, tables_few}
+use Rattle.reasons.proofs.Queueing.{keyed_fields, part_first, part_more, part_end, word_in, note_asks, tables_few}
 use Rattle.image.proofs.Within.{has_word}
 use Rattle.model.specs.Image.{field, a_field}
 use native.Mathlib.Omega.{arith}
-use Prim.Native.Nat.{◌+◌, ◌*◌, ◌-◌, ◌≤◌, ◌<◌}
-use borrow.Author.Rules.{rules}
+use Prim.Native.Nat.{◌*◌, ◌<◌}
 use Rattle.reasons.proofs.note_fields.Goals as goal
 
 pub offset_bounds-list-b : goal.offset_bounds-list-b

@@ -1,9 +1,6 @@
-use Rattle.reasons.proofs.Queueing.{Part, keyed_fields, part_first, part_more, part_end, word_in, note_asks, tables_few}
-use Rattle.image.proofs.Within.{has_word}
-use Rattle.model.specs.Image.{field, a_field}
-use native.Mathlib.Omega.{arith}
-use Prim.Native.Nat.{◌+◌, ◌*◌, ◌-◌, ◌≤◌, ◌<◌}
-use borrow.Author.Rules.{rules}
+use Rattle.reasons.proofs.Queueing.{Part}
+use Rattle.model.specs.Image.{field}
+use Prim.Native.Nat.{◌+◌, ◌*◌, ◌-◌, ◌≤◌}
 use Rattle.reasons.proofs.note_fields.Given as goal
 
 abbrev pub invariant-loop-k : goal.invariant-loop-k

@@ -3,7 +3,6 @@ use Rattle.reasons.proofs.Climbing.{field_most, has_name}
 use Prim.Native.Nat.{◌≤◌}
 use lib.ListN.{length-set}
 use native.Mathlib.Omega.{arith}
-use borrow.Author.Rules.{rules}
 use Rattle.reasons.proofs.put_pair.Goals as goal
 
 pub name_at-requires : goal.name_at-requires

@@ -1,9 +1,7 @@
 -- `reasons::spread` meets its contract. Assumes nothing. After b turns the first b + 1 rows are whole.
 use Rattle.reasons.proofs.Queueing.{tables_few}
-use Rattle.reasons.specs.Queue.{Queue}
-use Rattle.kinds.specs.Names.{most_places}
 use native.Mathlib.Omega.{arith}
-use Prim.Native.Nat.{◌+◌, ◌*◌, ◌-◌, ◌≤◌}
+use Prim.Native.Nat.{◌+◌}
 use Rattle.reasons.proofs.spread.Goals as goal
 
 pub note_anchors-n-requires : goal.note_anchors-n-requires

@@ -1,7 +1,5 @@
-use Rattle.reasons.proofs.Queueing.{tables_few}
 use Rattle.reasons.specs.Queue.{Queue}
 use Rattle.kinds.specs.Names.{most_places}
-use native.Mathlib.Omega.{arith}
 use Prim.Native.Nat.{◌+◌, ◌*◌, ◌-◌, ◌≤◌}
 use Rattle.reasons.proofs.spread.Given as goal
 

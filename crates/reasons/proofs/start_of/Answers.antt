@@ -1,6 +1,5 @@
 -- `reasons::start_of` meets its contract. Assumes nothing.
 use borrow.Author.Tests.{lt-ltb, le-ltb}
-use borrow.Author.Rules.{rules}
 use Rattle.reasons.proofs.start_of.Goals as goal
 
 pub returns-then-a-roots : goal.returns-then-a-roots
