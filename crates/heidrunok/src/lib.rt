@@ -1,4 +1,4 @@
-// The catalogue's thirteen calls for C and Rust: `rt staticlib heidrunok` proves this crate and writes target/staticlib/libheidrunok.a
+// The catalogue's thirteen calls for C and Rust: `rt lib` proves this crate and writes out/libheidrunok.a
 // (bindings/README.md). A slice is a pointer and a length. Each call returns the paper's number, 0 where it is accepted, and writes what it
 // answers through its last pointers: zeros where it is refused, but for the extra answer and recovery's byte. None has a `requires`; each has
 // one `ensures`, an equation with the definition that the same call's contract cites in `catalogue` or `recovery`, its answer said in numbers
