@@ -31,9 +31,8 @@ use Rattle.lines.specs.Cursor.{body, after}
 use Rattle.lines.specs.Print.{print}
 use Rattle.lines.specs.Words.{Edition}
 use Rattle.model.specs.Image.{Image, state, addr, length_of, size, blank, place}
-use Rattle.model.specs.Acts.{Act, commit, single, perform}
+use Rattle.model.specs.Acts.{Act, commit, single}
 use Rattle.model.specs.History.{still, acted}
-use Rattle.model.specs.Outlist.{outlist}
 use Rattle.model.specs.Sessions.{Retains}
 use Rattle.holding.specs.Finding as finding
 use Rattle.holding.specs.Finding.{explained, denied}

@@ -12,7 +12,7 @@ use lib.Dec.{ltb}
 use lib.ListN.{length, get_or, drop, length-append, length-drop}
 use lib.Seq.{get_or-append-add, get_or-drop}
 use borrow.Author.Tests.{ltb-true, ltb-false}
-use Rattle.kinds.specs.Names.{roots, word_of, named, session}
+use Rattle.kinds.specs.Names.{roots, word_of, session}
 use Rattle.kinds.specs.declared.Name.{Name}
 use Rattle.kinds.specs.declared.Target.TheVariants.{Object}
 use Rattle.kinds.specs.declared.Start.{Start}

@@ -1,3 +1,5 @@
+#![tactic(auto)]
+
 // What the customer signs: demands 1 to 3 over the public calls, each a named theorem whose statement can be read with the paper beside it.
 // Demand 1, the table of refusals: specs/Rows and specs/Recovering, proofs/Refusals, proofs/Recoveries, proofs/Leaving.
 // Demand 2, every cut of a log: specs/Book, proofs/Books. What a call writes, what local spares and what ask answers: specs/Effects,

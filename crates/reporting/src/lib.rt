@@ -3,6 +3,8 @@
 // journal's recovery; `report` writes exactly these into the lent bytes (`reported`), for any bytes as log. That no report is longer than ROOM
 // is proved in proofs/Reporting.antt. The image is lent with as many words as the log's heading asks for, so that 2 is answered for P or S
 // alone.
+#![tactic(auto)]
+
 pub mod asked;
 mod rows;
 

@@ -1,5 +1,4 @@
 -- `report::main` meets its contract. Assumes nothing.
-use borrow.Author.Rules.{rules}
 use Rattle.report.proofs.main.Goals as goal
 
 pub slice_bounds-log-end : goal.slice_bounds-log-end

@@ -6,7 +6,6 @@ use Rattle.model.proofs.Keys.{sized_length}
 use Rattle.model.specs.Image.{length_of}
 use mathlib.Core.Path.{◌∙◌}
 use native.Mathlib.Omega.{arith}
-use borrow.Author.Rules.{rules}
 use Rattle.reporting.proofs.put_recovered.Goals as goal
 
 pub overflow_cast-k : goal.overflow_cast-k

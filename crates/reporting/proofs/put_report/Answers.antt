@@ -2,7 +2,6 @@
 use Rattle.reporting.proofs.Reporting.{report_long, words_fit, words_lent, lent_whole, lent_report}
 use mathlib.Core.Path.{sym}
 use native.Mathlib.Omega.{arith}
-use borrow.Author.Rules.{rules}
 use Rattle.reporting.proofs.put_report.Goals as goal
 
 pub returns-then-log-gt-MOST : goal.returns-then-log-gt-MOST

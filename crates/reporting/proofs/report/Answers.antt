@@ -1,6 +1,5 @@
 -- `reporting::report` meets its contract. Assumes nothing.
 use Rattle.reporting.proofs.Reporting.{reported_full, reported_done}
-use borrow.Author.Rules.{rules}
 use Rattle.reporting.proofs.report.Goals as goal
 
 pub returns-then-out-lt-ROOM : goal.returns-then-out-lt-ROOM

@@ -5,7 +5,6 @@ use Rattle.writer.proofs.Puts.{put_then}
 use Rattle.model.proofs.Keys.{has}
 use Rattle.model.specs.Image.{phase}
 use native.Mathlib.Omega.{arith}
-use borrow.Author.Rules.{rules}
 use Rattle.reporting.proofs.rows.put_kept.Goals as goal
 
 pub put_row-a-requires : goal.put_row-a-requires

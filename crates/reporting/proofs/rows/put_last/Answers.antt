@@ -4,7 +4,6 @@ use Rattle.writer.proofs.Puts.{put_byte, put_then, put_length, room_first}
 use lib.ListN.{length-append}
 use mathlib.Core.List.{[], ◌∷◌}
 use native.Mathlib.Omega.{arith}
-use borrow.Author.Rules.{rules}
 use Rattle.reporting.proofs.rows.put_last.Goals as goal
 
 pub put_spaced-next-requires : goal.put_spaced-next-requires

@@ -2,7 +2,6 @@
 use Rattle.reporting.specs.Report.{object_word, spaced, ending, row}
 use Rattle.writer.proofs.Puts.{put_then, room_first, room_then}
 use mathlib.Core.List.{[], ◌∷◌}
-use borrow.Author.Rules.{rules}
 use Rattle.reporting.proofs.rows.put_object.Goals as goal
 
 pub put_text-a-requires : goal.put_text-a-requires

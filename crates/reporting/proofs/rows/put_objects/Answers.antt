@@ -5,9 +5,7 @@ use Rattle.reporting.specs.Report.{objects}
 use Rattle.writer.proofs.Puts.{put_none, put_length}
 use Rattle.model.proofs.Keys.{has}
 use Rattle.model.specs.Image.{state, payload}
-use Rattle.lines.specs.Print.{Put}
 use mathlib.Core.Path.{◌≡◌}
-use Prim.Native.Nat.{◌-◌, ◌≤◌}
 use native.Mathlib.Omega.{arith}
 use borrow.Author.Rules.{rules}
 use Rattle.reporting.proofs.rows.put_objects.Goals as goal

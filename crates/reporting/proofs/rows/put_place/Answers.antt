@@ -5,7 +5,6 @@ use Rattle.writer.proofs.Puts.{put_none}
 use Prim.Native.Nat.{◌/◌, ◌%◌, ◌<◌}
 use mathlib.Core.Path.{sym, ◌∙◌}
 use native.Mathlib.Omega.{arith}
-use borrow.Author.Rules.{rules}
 use Rattle.reporting.proofs.rows.put_place.Goals as goal
 
 pub returns-then-state_at-eq0 : goal.returns-then-state_at-eq0

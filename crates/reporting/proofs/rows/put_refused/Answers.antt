@@ -3,7 +3,6 @@ use Rattle.reporting.proofs.Texts.{row_room, row_put}
 use Rattle.reporting.specs.Report.{refused_text}
 use Rattle.writer.proofs.Puts.{put_then}
 use native.Mathlib.Omega.{arith}
-use borrow.Author.Rules.{rules}
 use Rattle.reporting.proofs.rows.put_refused.Goals as goal
 
 pub put_row-a-requires : goal.put_row-a-requires

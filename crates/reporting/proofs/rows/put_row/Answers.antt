@@ -3,7 +3,6 @@ use lib.ListN.{length}
 use Rattle.reporting.specs.Report.{ending, row}
 use Rattle.writer.proofs.Puts.{put_then, room_first, room_then}
 use mathlib.Core.List.{[], ◌∷◌}
-use borrow.Author.Rules.{rules}
 use Rattle.reporting.proofs.rows.put_row.Goals as goal
 
 pub put_text-next-requires : goal.put_text-next-requires

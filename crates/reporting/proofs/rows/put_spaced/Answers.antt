@@ -4,7 +4,6 @@ use Rattle.writer.proofs.Puts.{put_byte, put_then}
 use lib.ListN.{length-set}
 use mathlib.Core.Path.{◌∙◌}
 use native.Mathlib.Omega.{arith}
-use borrow.Author.Rules.{rules}
 use Rattle.reporting.proofs.rows.put_spaced.Goals as goal
 
 pub bounds-out-at : goal.bounds-out-at

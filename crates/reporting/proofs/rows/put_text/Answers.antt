@@ -1,9 +1,6 @@
 -- `reporting::rows::put_text` meets its contract. Assumes nothing.
 use Rattle.reporting.proofs.Texts.{put_letter, put_word_lem}
 use Rattle.writer.proofs.Puts.{put_length}
-use Rattle.lines.specs.Print.{Put}
-use lib.ListN.{length, take}
-use Prim.Native.Nat.{◌+◌, ◌-◌, ◌≤◌}
 use native.Mathlib.Omega.{arith}
 use borrow.Author.Rules.{rules}
 use Rattle.reporting.proofs.rows.put_text.Goals as goal

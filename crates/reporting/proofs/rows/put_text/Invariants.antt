@@ -1,10 +1,6 @@
-use Rattle.reporting.proofs.Texts.{put_letter, put_word_lem}
-use Rattle.writer.proofs.Puts.{put_length}
 use Rattle.lines.specs.Print.{Put}
 use lib.ListN.{length, take}
 use Prim.Native.Nat.{◌+◌, ◌-◌, ◌≤◌}
-use native.Mathlib.Omega.{arith}
-use borrow.Author.Rules.{rules}
 use Rattle.reporting.proofs.rows.put_text.Given as goal
 
 abbrev pub invariant-loop-i : goal.invariant-loop-i

@@ -1,6 +1,5 @@
 -- `reporting::rows::put_toolong` meets its contract. Assumes nothing.
 use Rattle.reporting.specs.Report.{row}
-use borrow.Author.Rules.{rules}
 use Rattle.reporting.proofs.rows.put_toolong.Goals as goal
 
 pub returns : goal.returns

@@ -1,7 +1,6 @@
 -- `scripts::command::next_number` meets its contract. Assumes nothing.
 use Rattle.scripts.proofs.Commands.{some_within, next_none, next_found}
 use mathlib.Core.Path.{sym, ◌∙◌}
-use borrow.Author.Rules.{rules}
 use Rattle.scripts.proofs.command.next_number.Goals as goal
 
 pub returns-then-from-to : goal.returns-then-from-to

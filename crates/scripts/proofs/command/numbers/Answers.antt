@@ -1,7 +1,5 @@
 -- `scripts::command::numbers` meets its contract. Assumes nothing.
-use Rattle.scripts.proofs.Commands.{Reading, reading_first, reading_end, reading_bad, reading_over, reading_more, pushed_less}
-use Rattle.scripts.specs.Commands.{most_numbers}
-use Prim.Native.Nat.{◌-◌}
+use Rattle.scripts.proofs.Commands.{reading_first, reading_end, reading_bad, reading_over, reading_more, pushed_less}
 use borrow.Author.Rules.{rules}
 use Rattle.scripts.proofs.command.numbers.Goals as goal
 

@@ -1,7 +1,6 @@
-use Rattle.scripts.proofs.Commands.{Reading, reading_first, reading_end, reading_bad, reading_over, reading_more, pushed_less}
+use Rattle.scripts.proofs.Commands.{Reading}
 use Rattle.scripts.specs.Commands.{most_numbers}
 use Prim.Native.Nat.{◌-◌}
-use borrow.Author.Rules.{rules}
 use Rattle.scripts.proofs.command.numbers.Given as goal
 
 abbrev pub invariant-loop-v : goal.invariant-loop-v

@@ -1,6 +1,5 @@
 -- `scripts::command::parse` meets its contract. Assumes nothing.
 use Rattle.scripts.proofs.Commands.{first_within, first_inside, command_none, command_remark, command_bytes, command_numbers}
-use borrow.Author.Rules.{rules}
 use Rattle.scripts.proofs.command.parse.Goals as goal
 
 pub returns-then-from-to : goal.returns-then-from-to

@@ -1,12 +1,12 @@
 -- `scripts::number::keyword` meets its contract. Assumes nothing.
 -- The loop's invariant: what is left of the word, after the letters so far, is coded as the whole word is (coded-on, coded-stop).
-use Rattle.scripts.specs.Numbers.{is_letter, coded, keyword_of}
-use lib.ListN.{get_or, length, drop}
+use Rattle.scripts.specs.Numbers.{is_letter, keyword_of}
+use lib.ListN.{get_or}
 use Rattle.loops.proofs.Tests.{both_false}
 use borrow.Author.Tests.{lt-ltb, le-ltb, le-leb, lt-leb}
-use Prim.Native.Nat.{◌^◌, ◌-◌}
+use Prim.Native.Nat.{◌^◌}
 use native.Mathlib.Omega.{arith}
-use mathlib.Core.Path.{◌≡◌, sym, ◌∙◌}
+use mathlib.Core.Path.{sym, ◌∙◌}
 use Rattle.scripts.proofs.Keywords.{coded_stop, coded_on, coded_end}
 use borrow.Author.Rules.{rules}
 use Rattle.scripts.proofs.number.keyword.Goals as goal

@@ -1,12 +1,7 @@
-use Rattle.scripts.specs.Numbers.{is_letter, coded, keyword_of}
-use lib.ListN.{get_or, length, drop}
-use Rattle.loops.proofs.Tests.{both_false}
-use borrow.Author.Tests.{lt-ltb, le-ltb, le-leb, lt-leb}
-use Prim.Native.Nat.{◌^◌, ◌-◌}
-use native.Mathlib.Omega.{arith}
-use mathlib.Core.Path.{◌≡◌, sym, ◌∙◌}
-use Rattle.scripts.proofs.Keywords.{coded_stop, coded_on, coded_end}
-use borrow.Author.Rules.{rules}
+use Rattle.scripts.specs.Numbers.{coded}
+use lib.ListN.{length, drop}
+use Prim.Native.Nat.{◌-◌}
+use mathlib.Core.Path.{◌≡◌}
 use Rattle.scripts.proofs.number.keyword.Given as goal
 
 abbrev pub invariant-loop-i : goal.invariant-loop-i

@@ -1,6 +1,5 @@
 -- `scripts::number::number` meets its contract. Assumes nothing.
 use Rattle.scripts.proofs.Numbers.{number_found}
-use borrow.Author.Rules.{rules}
 use Rattle.scripts.proofs.number.number.Goals as goal
 
 pub returns-in-End : goal.returns-in-End

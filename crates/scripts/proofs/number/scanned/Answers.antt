@@ -4,12 +4,10 @@ use Rattle.lines.specs.Words.{all_rows, code, end_text}
 use Rattle.lines.specs.declared.machine.Scan.TheVariants.{Start}
 use Rattle.scripts.specs.Numbers.{after_end}
 use Rattle.lines.proofs.Runs.{scan_over, scan_on}
-use lib.Seq.{slice, slice_empty, take-length}
+use lib.Seq.{slice_empty, take-length}
 use lib.ListN.{length}
 use mathlib.Core.Path.{◌≡◌, sym, ◌∙◌}
-use Prim.Native.Nat.{◌-◌, ◌≤◌}
 use native.Mathlib.Omega.{arith}
-use borrow.Author.Rules.{rules}
 use Rattle.scripts.proofs.number.scanned.Goals as goal
 
 pub returns-then-word-room : goal.returns-then-word-room

@@ -1,14 +1,10 @@
-use Rattle.lines.specs.Machine.{rows_of, opened, scan}
-use Rattle.lines.specs.Words.{all_rows, code, end_text}
-use Rattle.lines.specs.declared.machine.Scan.TheVariants.{Start}
+use Rattle.lines.specs.Machine.{scan}
+use Rattle.lines.specs.Words.{all_rows}
 use Rattle.scripts.specs.Numbers.{after_end}
-use Rattle.lines.proofs.Runs.{scan_over, scan_on}
-use lib.Seq.{slice, slice_empty, take-length}
+use lib.Seq.{slice}
 use lib.ListN.{length}
-use mathlib.Core.Path.{◌≡◌, sym, ◌∙◌}
+use mathlib.Core.Path.{◌≡◌}
 use Prim.Native.Nat.{◌-◌, ◌≤◌}
-use native.Mathlib.Omega.{arith}
-use borrow.Author.Rules.{rules}
 use Rattle.scripts.proofs.number.scanned.Given as goal
 
 abbrev pub invariant-loop-i : goal.invariant-loop-i

@@ -1,5 +1,4 @@
 -- `scripts::order::acted` meets its contract. Assumes nothing.
-use borrow.Author.Rules.{rules}
 use Rattle.scripts.proofs.order.acted.Goals as goal
 
 pub returns-in-Single : goal.returns-in-Single

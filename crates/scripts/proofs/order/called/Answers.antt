@@ -1,6 +1,5 @@
 -- `scripts::order::called` meets its contract. Assumes nothing.
 use Rattle.scripts.specs.Orders.{called}
-use borrow.Author.Rules.{rules}
 use Rattle.scripts.proofs.order.called.Goals as goal
 
 pub returns-in-Operation : goal.returns-in-Operation

@@ -8,7 +8,6 @@ use Rattle.lines.proofs.Parts.{keys, row_none}
 use Rattle.scripts.specs.declared.order.Order.TheVariants.{What}
 use Rattle.scripts.specs.Table.{rows}
 use Rattle.scripts.specs.Orders.{keyed}
-use borrow.Author.Rules.{rules}
 use Rattle.scripts.proofs.order.keyed.Goals as goal
 
 pub returns-in-452806666085 : goal.returns-in-452806666085

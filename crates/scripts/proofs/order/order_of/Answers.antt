@@ -1,6 +1,5 @@
 -- `scripts::order::order_of` meets its contract. Assumes nothing.
 use Rattle.scripts.specs.Orders.{order_of}
-use borrow.Author.Rules.{rules}
 use Rattle.scripts.proofs.order.order_of.Goals as goal
 
 pub returns-in-Nothing : goal.returns-in-Nothing

@@ -8,7 +8,6 @@ use lib.ListN.{length, get_or}
 use borrow.Author.Tests.{eq-eqb, ne_eqb}
 use Rattle.scripts.specs.Runs.{bare_of}
 use Rattle.scripts.proofs.Ends.{bare_within}
-use borrow.Author.Rules.{rules}
 use Rattle.scripts.proofs.run.bare.Goals as goal
 
 pub returns-then-n-eq0 : goal.returns-then-n-eq0

@@ -1,12 +1,7 @@
 -- `scripts::run::end_of` meets its contract. Assumes nothing.
-use borrow.Author.Tests.{not-true, not-false}
 use native.Mathlib.Omega.{arith}
-use Prim.Native.Nat.{◌-◌}
-use mathlib.Core.Path.{◌≡◌, sym, ◌∙◌}
-use lib.ListN.{length}
-use Rattle.scripts.specs.Runs.{end_of}
+use mathlib.Core.Path.{sym, ◌∙◌}
 use Rattle.scripts.proofs.Ends.{end_here, end_on, end_past}
-use borrow.Author.Rules.{rules}
 use Rattle.scripts.proofs.run.end_of.Goals as goal
 
 pub returns-then-not-goes_on : goal.returns-then-not-goes_on

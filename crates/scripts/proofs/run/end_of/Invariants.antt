@@ -1,11 +1,7 @@
-use borrow.Author.Tests.{not-true, not-false}
-use native.Mathlib.Omega.{arith}
 use Prim.Native.Nat.{◌-◌}
-use mathlib.Core.Path.{◌≡◌, sym, ◌∙◌}
+use mathlib.Core.Path.{◌≡◌}
 use lib.ListN.{length}
 use Rattle.scripts.specs.Runs.{end_of}
-use Rattle.scripts.proofs.Ends.{end_here, end_on, end_past}
-use borrow.Author.Rules.{rules}
 use Rattle.scripts.proofs.run.end_of.Given as goal
 
 abbrev pub invariant-loop-i : goal.invariant-loop-i

@@ -1,5 +1,4 @@
 -- `scripts::run::goes_on` meets its contract. Assumes nothing.
-use borrow.Author.Rules.{rules}
 use Rattle.scripts.proofs.run.goes_on.Goals as goal
 
 pub returns-in-Gap : goal.returns-in-Gap

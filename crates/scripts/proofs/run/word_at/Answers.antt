@@ -1,6 +1,5 @@
 -- `scripts::run::word_at` meets its contract. Assumes nothing.
 use Rattle.scripts.specs.Runs.{word_at}
-use borrow.Author.Rules.{rules}
 use Rattle.scripts.proofs.run.word_at.Goals as goal
 
 pub returns : goal.returns

@@ -2,7 +2,6 @@
 use Rattle.scripts.specs.Commands.{complete}
 use mathlib.Core.Path.{sym, ◌∙◌}
 use borrow.Author.Tests.{eq-eqb, ne_eqb}
-use borrow.Author.Rules.{rules}
 use Rattle.scripts.proofs.command.Call.complete.Goals as goal
 
 pub returns-then-self-takes : goal.returns-then-self-takes

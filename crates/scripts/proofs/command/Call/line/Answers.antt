@@ -1,6 +1,5 @@
 -- `scripts::command::Call::line` meets its contract. Assumes nothing.
 use Rattle.scripts.specs.Commands.{line_of}
-use borrow.Author.Rules.{rules}
 use Rattle.scripts.proofs.command.Call.line.Goals as goal
 
 pub returns : goal.returns

@@ -1,7 +1,6 @@
 -- `scripts::command::Call::shorter` meets its contract. Assumes nothing.
 use borrow.Author.Tests.{eq-eqb, ne_eqb}
 use Rattle.scripts.specs.Commands.{shorter_of}
-use borrow.Author.Rules.{rules}
 use Rattle.scripts.proofs.command.Call.shorter.Goals as goal
 
 pub returns-then-self-eq1 : goal.returns-then-self-eq1
