@@ -7,7 +7,7 @@ use Rattle.reasons.proofs.enter.Goals as goal
 
 pub returns-then-rows-j-gt0 : goal.returns-then-rows-j-gt0
 returns-then-rows-j-gt0 c =
-    again c.if-rows-j-gt0.true refl refl refl
+    again (omega (arith, c.if-rows-j-gt0.true)) refl refl refl
 
 pub insert-requires : goal.insert-requires
 insert-requires c =

@@ -30,7 +30,7 @@ unfolding keyword_of
 returns-then-k-ge72057594037927936 c =
     let l = c.loop-i in
     let w = c.args.word.now in
-    coded_stop l.k w l.i (omega arith) (rw (le-ltb l.k (2 ^ 56) (search rules)) (both_false (is_letter (get_or w l.i 0)))) ∙ sym l.invariant
+    coded_stop l.k w l.i (omega arith) (rw (le-ltb l.k (2 ^ 56) (omega (arith, c.if-k-ge72057594037927936.true))) (both_false (is_letter (get_or w l.i 0)))) ∙ sym l.invariant
 
 pub loop-i-preserved : goal.loop-i-preserved
 loop-i-preserved c =
