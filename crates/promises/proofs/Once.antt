@@ -24,7 +24,7 @@ use Rattle.lines.proofs.cursor.Cursor.next.Reads as next-reads
 use Rattle.lines.proofs.cursor.Cursor.fault.Kinds as fault
 use Rattle.lines.proofs.cursor.Cursor.fault.Reads as fault-reads
 use Rattle.writer.proofs.write_line.Kinds as line
-use Rattle.writer.proofs.write_line.Reads as line_reads_lem
+use Rattle.writer.proofs.write_line.Reads as line-reads
 use Rattle.writer.proofs.write_commit.Kinds as commit
 use Rattle.writer.proofs.write_commit.Reads as commit-reads
 
@@ -66,7 +66,7 @@ wrote_once o a b x y p q =
     record { answer = ap (λ (w : Wrote). w.answer) e; left = ap (λ (w : Wrote). w.log) e }
 
 pub write_line_once : (κs : Lfts 1) (xs : Dens κs line.ps) (a b : (res_t line.r κs).Denot) (s t : AtExit (ended_of 1 line.ps line.r) κs)
-    → line_reads_lem.Post κs xs a s → line_reads_lem.Post κs xs b t → Once a b s.0.now t.0.now
+    → line-reads.Post κs xs a s → line-reads.Post κs xs b t → Once a b s.0.now t.0.now
 write_line_once κs xs a b s t p q = wrote_once _ _ _ _ _ p q
 
 pub write_commit_once : (κs : Lfts 1) (xs : Dens κs commit.ps) (a b : (res_t commit.r κs).Denot) (s t : AtExit (ended_of 1 commit.ps commit.r) κs)
