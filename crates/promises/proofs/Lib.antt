@@ -8,6 +8,7 @@ pub mod Books
 pub mod Recoveries
 pub mod Reached
 pub mod Phases
+pub mod Cuts
 pub mod Starred
 pub mod Once
 pub mod Effects

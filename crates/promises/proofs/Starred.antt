@@ -1,20 +1,18 @@
 -- The starred numbers, in a single table covered by one proof: it computes, but for the cuts at 11 to 88 bytes, which are demand 2; and rows of our own in a
 -- second. Two partitions of four slots.
 -- Assumes nothing.
-use Prim.Native.Nat.{ℕ, ◌≤◌}
+use Prim.Native.Nat.{ℕ}
 use native.Mathlib.Omega.{arith}
-use mathlib.Core.Path.{◌≡◌, refl, sym, ap, ◌∙◌}
+use mathlib.Core.Path.{◌≡◌, refl}
 use mathlib.Core.Bool.{Bool, true}
 use mathlib.Core.List.{List, [], ◌∷◌, ◌++◌}
 use lib.Dec.{eqb}
-use lib.ListN.{length, take, drop, replicate}
-use lib.Seq.{take-take}
-use borrow.Author.Tests.{lt-leb, eqb-true}
+use lib.ListN.{take, drop, replicate}
+use borrow.Author.Tests.{eqb-true}
 use Rattle.loops.specs.Cases.{case, from_to, Agree}
 use Rattle.loops.specs.Loop.{both}
 use Rattle.loops.proofs.Tests.{both_true}
 use Rattle.kinds.specs.Names.{partition, named, session as handle-of, word_of}
-use Rattle.kinds.specs.Editions.{terms}
 use Rattle.kinds.specs.Answers.{refuse}
 use Rattle.kinds.specs.Operations.{new, set_to, root_to, unroot, three}
 use Rattle.kinds.specs.declared.Name.{Name}
@@ -29,20 +27,18 @@ use Rattle.model.proofs.Computing.{imaging, looping, acting, judging, sounding, 
 use Rattle.lines.specs.declared.line.Line.TheVariants.{Operation, Single}
 use Rattle.lines.specs.Cursor.{body, after}
 use Rattle.lines.specs.Print.{print}
-use Rattle.lines.specs.Words.{Edition}
 use Rattle.model.specs.Image.{Image, state, addr, length_of, size, blank, place}
-use Rattle.model.specs.Acts.{Act, commit, single}
-use Rattle.model.specs.History.{still, acted}
+use Rattle.model.specs.Acts.{Act, single}
 use Rattle.model.specs.Sessions.{Retains}
 use Rattle.holding.specs.Finding as finding
 use Rattle.holding.specs.Finding.{explained, denied}
 use Rattle.writer.specs.Record.{rule, op_lines, record_of, heading_of}
 use Rattle.writer.specs.Write.{splice}
-use Rattle.journal.proofs.Demand.{demand_2}
-use Rattle.journal.specs.Log.{log_of, replay, whole, History}
+use Rattle.journal.specs.Log.{log_of}
 use Rattle.journal.specs.Recover.{act, judge_heading, headed, feed, feed_all, refusal, recovery, answer, recover_of, byte_by, byte_of}
 use Rattle.catalogue.specs.Call as call
 use Rattle.catalogue.specs.Call.{judge_act, judge_commit, judge_foreign, judge_object, format_of, call_by, commit_of, listing_of, why_of}
+use Rattle.promises.proofs.Cuts.{cut_at}
 use Rattle.promises.specs.Calls.{Call, act_of, calling}
 use Rattle.promises.specs.Sessions.{HeldSince, held, called}
 use Rattle.promises.specs.Paper.{paper_log, three_holding, three_objects, done, opened, freed, closed, refused, Session, next, continued, session, committing, opening, closing, tracing, localizing, holding, dropping}
@@ -64,24 +60,6 @@ explaining : Unit {0}
 unfolding finding.some finding.is_to finding.field_to finding.anchor_to finding.fields_along finding.leads_in finding.next finding.names_from finding.head_of finding.distance
     finding.chain_of finding.turns finding.words_of finding.held_by finding.held_of
 explaining = tt
-
--- the paper's transaction is a history under a heading of each edition
-transacted : (e : ℕ) → Edition e → 4 ≤ (terms e).slots → History (rule e 2 4) (commit three ∷ [])
-unfolding imaging looping acting judging replay
-transacted e known narrow =
-    record { edition = known; range = refl; narrow = narrow; words = ((omega arith, (omega arith, (omega arith, (tt, (tt, (tt, tt)))))), tt); run = acted (commit three) still refl }
-
--- so by demand 2 the cuts from 11 to 88 bytes, within its record, leave the formatting alone
-cut_at : (e : ℕ) → Edition e → 4 ≤ (terms e).slots → length (heading_of (rule e 2 4)) ≡ 11 → take 89 (paper_log e) ≡ log_of (rule e 2 4) (commit three ∷ [])
-    → (k : ℕ) → 11 ≤ k → k ≤ 88 → recover_of (take k (paper_log e)) 125 ≡ recovery 11 (blank 2 4)
-unfolding whole log_of replay size
-cut_at e known narrow eleven begins k lo hi =
-    let record-end : length (log_of (rule e 2 4) (commit three ∷ [])) ≡ 89 = sym (ap length begins) in
-    let none : whole (rule e 2 4) (commit three ∷ []) k ≡ [] = rw (lt-leb (length (log_of (rule e 2 4) (commit three ∷ []))) k (omega arith)) in
-    ap (λ (zs : List ℕ). recover_of zs 125) (sym (take-take k 89 (paper_log e) (omega arith)) ∙ ap (take k) begins)
-    ∙ demand_2 (rule e 2 4) (commit three ∷ []) (transacted e known narrow) k (omega arith)
-    ∙ ap (λ (acts : List Act). recovery (length (log_of (rule e 2 4) acts)) (replay (rule e 2 4) acts)) none
-    ∙ ap (λ (n : ℕ). recovery n (blank 2 4)) eleven
 
 -- a phase of four traces
 abbrev four_traces : List Call
