@@ -1,4 +1,6 @@
 // A reader that keeps why it failed, and the line on standard error that says it.
+ghost use Rattle.std.specs.Prelude.{◌≡◌, IfSome, IsNone};
+
 use std::fmt::InlineText;
 use std::io;
 use std::io::{IsTerminal, Read};
@@ -6,12 +8,16 @@ use std::io::{IsTerminal, Read};
 // A reader, and the error of its last read that failed.
 #[derive(Drop)]
 pub struct Source<R> {
-    reader: R,
-    error: Option<io::Error>,
+    pub reader: R,
+    pub error: Option<io::Error>,
 }
 
 impl<R> Source<R> {
-    pub fn new(reader: R) -> Source<R> {
+    // No read has failed yet.
+    pub fn new(reader: R) -> Source<R>
+        ensures reader { result.reader ≡ reader }
+        ensures no_error { IsNone result.error }
+    {
         Source {
             reader,
             error: None,
@@ -19,7 +25,9 @@ impl<R> Source<R> {
     }
 
     // Why the last read that failed did; where none did, an error that says nothing.
-    pub fn error(&self) -> io::Error {
+    pub fn error(&self) -> io::Error
+        ensures { IfSome self.now.error (λ e. result ≡ e) }
+    {
         match self.error {
             Some(e) => e,
             None => io::Error::from(io::ErrorKind::Other),
