@@ -6,15 +6,18 @@ use mathlib.Core.Bool.{true, false}
 use mathlib.Core.List.{List}
 use native.Mathlib.Omega.{arith}
 use lib.ListN.{length, take}
-use lib.Seq.{length-take-le}
+use lib.Seq.{take_all}
+use lib.Dec.{ltb, leb}
+use mathlib.Core.Logic.{◌⊎◌, inl, inr}
+use Rattle.loops.proofs.Tests.{both_true, both_false}
 use borrow.Author.Tests.{leb-true, lt-leb, le-leb, lt-ltb, ltb-true}
 use Rattle.kinds.specs.Names.{most_operations}
 use Rattle.kinds.specs.Answers.{refuse}
 use Rattle.kinds.specs.declared.Name.{Name}
 use Rattle.kinds.specs.declared.Partition.{Partition}
 use Rattle.kinds.specs.declared.Operation.{Operation}
-use Rattle.kinds.specs.declared.Verdict.{Verdict}
-use Rattle.kinds.specs.declared.Verdict.TheVariants.{Accepted}
+use Rattle.kinds.specs.Answers.{Verdict}
+use Rattle.kinds.specs.Answers.{allowed}
 use Rattle.model.specs.Image.{Image, head, partitions, slots, Has, get, place}
 use Rattle.model.specs.Acts.{Act, commit}
 use Rattle.model.specs.Judge.{check, judge, judge_ops, judge_outlist}
@@ -26,7 +29,7 @@ use Rattle.image.proofs.Within.{sound_within, has_word}
 use Rattle.verdicts.proofs.Naming.{accepted_in}
 use Rattle.catalogue.specs.declared.Subject.{Subject}
 use Rattle.catalogue.specs.declared.Subject.TheVariants.{Single, Outlist as Foreign, Object}
-use Rattle.catalogue.specs.Call.{judge_in, judge_act, judge_commit, judge_foreign, judge_object, judge_subject}
+use Rattle.catalogue.specs.Call.{judge_in, judge_act, judge_foreign, judge_object, judge_subject}
 
 module _ (x : Image) where
   -- 1 where the image is not sound, else what the other checks say
@@ -51,17 +54,17 @@ module _ (x : Image) where
   pub sound_head : is_sound x ≡ true → (h : ℕ) → h < 2 → Has x (head h)
   sound_head e h l = has_word (get x partitions) (get x slots) x (sound_in e) (head h) (omega arith)
 
-  module _ (a : Act) (j : judge_act x a ≡ Accepted) where
+  module _ (a : Act) (j : judge_act x a ≡ allowed) where
     pub act_sound : is_sound x ≡ true
     unfolding judge_act
     act_sound = (check_true _ _ _ _ j).0
 
-    pub act_judged : judge_in x a ≡ Accepted
+    pub act_judged : judge_in x a ≡ allowed
     unfolding judge_act
     act_judged = (check_true _ _ _ _ j).1
 
   -- a partition whose outlist is asked for is one of P
-  module _ (p : Partition) (j : judge_foreign x p ≡ Accepted) where
+  module _ (p : Partition) (j : judge_foreign x p ≡ allowed) where
     pub foreign_sound : is_sound x ≡ true
     unfolding judge_foreign
     foreign_sound = (check_true _ _ _ _ j).0
@@ -70,7 +73,7 @@ module _ (x : Image) where
     unfolding judge_foreign judge_outlist
     foreign_in = ltb-true _ _ (check_true _ _ _ _ (check_true _ _ _ _ j).1).0
 
-  module _ (n : Name) (j : judge_object x n ≡ Accepted) where
+  module _ (n : Name) (j : judge_object x n ≡ allowed) where
     pub object_sound : is_sound x ≡ true
     unfolding judge_object
     object_sound = (check_true _ _ _ _ j).0
@@ -81,33 +84,22 @@ module _ (x : Image) where
     object_in = accepted_in _ _ x n (check_true _ _ _ _ j).1
 
   -- 6 before the operations
-  module _ (ops : List Operation) (n : ℕ) where
-    pub none : is_sound x ≡ true → n ≡ 0 → refuse 6 0 ≡ judge_commit x ops n
-    unfolding judge_commit check judge
-    none e z = rw (e, z)
+  module _ (ops : List Operation) where
+    pub miscounted : is_sound x ≡ true → (length ops ≡ 0) ⊎ (most_operations < length ops) → refuse 6 0 ≡ judge_act x (commit ops)
+    unfolding judge_act check judge
+    miscounted e (inl z) = rw (e, z)
+    miscounted e (inr l) = rw (e, lt-leb (length ops) most_operations l, both_false (ltb 0 (length ops)))
 
-    pub many : is_sound x ≡ true → most_operations < n → refuse 6 0 ≡ judge_commit x ops n
-    unfolding judge_commit check
-    many e l = rw (e, lt-leb n most_operations l)
+    pub counted : is_sound x ≡ true → 0 < length ops → length ops ≤ most_operations
+        → (p s : ℕ) → p ≡ get x partitions → s ≡ get x slots → judge_ops p s x 1 ops ≡ judge_act x (commit ops)
+    unfolding judge_act check judge
+    counted e z l p s h i = rw (h, i, e, lt-ltb 0 (length ops) z, le-leb (length ops) most_operations l)
 
-    pub counted : is_sound x ≡ true → 0 < n → n ≤ most_operations → n ≤ length ops
-        → (p s : ℕ) → p ≡ get x partitions → s ≡ get x slots → judge_ops p s x 1 (take n ops) ≡ judge_commit x ops n
-    unfolding judge_commit check judge
-    counted e z l k p s h i = rw (h, i, e, le-leb n most_operations l, length-take-le n ops k, lt-ltb 0 n z, le-leb n most_operations l)
+    pub operations_judged : judge_act x (commit ops) ≡ allowed → judge_ops (get x partitions) (get x slots) x 1 ops ≡ allowed
+    unfolding judge
+    operations_judged j = (check_true _ _ _ _ (act_judged (commit ops) j)).1
 
-    module _ (j : judge_commit x ops n ≡ Accepted) where
-      pub commit_sound : is_sound x ≡ true
-      unfolding judge_commit
-      commit_sound = (check_true _ _ _ _ j).0
-
-      pub commit_few : n ≤ most_operations
-      unfolding judge_commit
-      commit_few = leb-true n most_operations (check_true _ _ _ _ (check_true _ _ _ _ j).1).0
-
-      pub commit_judged : judge_in x (commit (take n ops)) ≡ Accepted
-      unfolding judge_commit
-      commit_judged = (check_true _ _ _ _ (check_true _ _ _ _ j).1).1
-
-      pub operations_judged : judge_ops (get x partitions) (get x slots) x 1 (take n ops) ≡ Accepted
-      unfolding judge
-      operations_judged = (check_true _ _ _ _ commit_judged).1
+    -- no more are written than it has
+    pub all_taken : judge_act x (commit ops) ≡ allowed → take most_operations ops ≡ ops
+    unfolding judge
+    all_taken j = take_all most_operations ops (leb-true _ _ (both_true (ltb 0 (length ops)) (leb (length ops) most_operations) (check_true _ _ _ _ (act_judged (commit ops) j)).0).1)

@@ -7,19 +7,18 @@ use mathlib.Core.List.{List}
 use mathlib.Core.Logic.{◌≢◌}
 use native.Mathlib.Omega.{arith}
 use lib.Dec.{leb}
-use lib.ListN.{length, take}
+use lib.ListN.{length}
 use Rattle.kinds.specs.declared.Name.{Name}
 use Rattle.kinds.specs.declared.Partition.{Partition}
-use Rattle.kinds.specs.declared.Record.{Record}
-use Rattle.kinds.specs.declared.Outlist.{Outlist}
 use Rattle.kinds.specs.declared.Operation.{Operation}
 use Rattle.kinds.specs.declared.Single.TheVariants.{Close, Local}
 use Rattle.kinds.specs.declared.Refusal.{Refusal}
 use Rattle.kinds.specs.declared.Start.{Start}
 use Rattle.kinds.specs.declared.Start.TheVariants.{Root, Handle}
-use Rattle.kinds.specs.declared.Reason.TheVariants.{Held}
-use Rattle.kinds.specs.declared.Verdict.{Verdict}
-use Rattle.kinds.specs.declared.Verdict.TheVariants.{Accepted, Refused}
+use Rattle.kinds.specs.Answers.{held_from}
+use Rattle.kinds.specs.Answers.{Verdict}
+use Rattle.std.specs.Prelude.{Result, Ok, Err}
+use Rattle.kinds.specs.Answers.{allowed}
 use Rattle.kinds.proofs.Answers.{unlike}
 use Rattle.model.specs.Image.{Image, partitions, slots, get, length_of, place}
 use Rattle.model.specs.Acts.{Act, commit, single}
@@ -30,24 +29,21 @@ use Rattle.model.proofs.SoundnessActs.{act_passes, blank_passes}
 use Rattle.image.proofs.Formats.{format_true}
 use Rattle.holding.specs.Finding.{start_of, held_of}
 use Rattle.holding.proofs.Answers.{held_so}
-use Rattle.catalogue.specs.declared.Answer.TheVariants.{Done, Refused as NotDone}
-use Rattle.catalogue.specs.declared.Closing.TheVariants.{Refused as NotClosed}
-use Rattle.catalogue.specs.declared.Freeing.TheVariants.{Refused as NotFreed}
-use Rattle.catalogue.specs.Call.{Outcome, perform, judge_act, judge_commit, judge_foreign, judge_object, format_of, call_by, call_of, commit_of, closed, close_of, freed, local_of, listing, listing_of, reading, reading_of, asked, asked_of, reasoned, why_of}
-use Rattle.catalogue.specs.Answers.{said, said_closing, said_freeing, said_listing, said_reading, said_asked, said_reason}
+use Rattle.catalogue.specs.Call.{Outcome, perform, judge_act, judge_foreign, judge_object, format_of, call_by, call_of, commit_of, closed, close_of, freed, local_of, answered, listing_of, reading_of, asked_of, reasoned, why_of}
+use Rattle.catalogue.specs.Answers.{Said, said, said_closing, said_freeing, said_listing, said_reading, said_asked, said_reason}
 use Rattle.catalogue.proofs.Perform.{fully, Performed, did, left, performed}
-use Rattle.catalogue.proofs.Judged.{passed, act_sound, act_judged, commit_sound, commit_judged}
+use Rattle.catalogue.proofs.Judged.{passed, act_sound, act_judged}
 use Rattle.model.proofs.Numbers.{Among, accepted, numbered, check_among, among_wider, act_among, outlist_among, name_among, format_among}
 
 -- a refusal's number is lo or above where the call's own list, then 17, has no lower one
-pub left_number : (lo : ℕ) (v : Verdict) (bytes log : List ℕ) (at : ℕ) → lo ≤ 17 → Among lo 16 v → (r : Refusal) → fully v bytes log at ≡ Refused r → lo ≤ r.number
+pub left_number : (lo : ℕ) (v : Verdict) (bytes log : List ℕ) (at : ℕ) → lo ≤ 17 → Among lo 16 v → (r : Refusal) → fully v bytes log at ≡ Err r → lo ≤ r.number
 unfolding and_then check
-left_number lo Accepted bytes log at s accepted r e = go (leb (at + length bytes) (length log)) e
+left_number lo (Ok _) bytes log at s accepted r e = go (leb (at + length bytes) (length log)) e
   where
-    go : (b : Bool) → check b 17 0 Accepted ≡ Refused r → lo ≤ r.number
+    go : (b : Bool) → check b 17 0 allowed ≡ Err r → lo ≤ r.number
     go true q = unlike (sym q)
     go false q = let z : 17 ≡ r.number = cc in omega arith
-left_number lo (Refused _) bytes log at s (numbered q l h) r e = let z : q.number ≡ r.number = cc in omega arith
+left_number lo (Err _) bytes log at s (numbered q l h) r e = let z : q.number ≡ r.number = cc in omega arith
 
 -- what a call that answers with a number leaves: accepted (number 0), a sound image; refused, image and log buffer as they were, and never 1 on a sound image
 pub record Leaves {A : Type 0} (number : A → ℕ) (img : Image) (log : List ℕ) (o : Outcome A) : Type 0 where
@@ -60,7 +56,7 @@ pub record Leaves {A : Type 0} (number : A → ℕ) (img : Image) (log : List �
 module _ {A : Type 0} (done-as : ℕ → A) (IsRefused-as : Refusal → A) (number : A → ℕ) (number-done : (n : ℕ) → number (done-as n) ≡ 0)
     (number-refused : (r : Refusal) → number (IsRefused-as r) ≡ r.number) (bytes : List ℕ) (next img : Image) (log : List ℕ) (at : ℕ) where
   module _ (v : Verdict) where
-    accepted_next : (o : Outcome A) → Performed done-as IsRefused-as v bytes next img log at o → Among 1 16 v → number o.answer ≡ 0 → (v ≡ Accepted) × (o.image ≡ next)
+    accepted_next : (o : Outcome A) → Performed done-as IsRefused-as v bytes next img log at o → Among 1 16 v → number o.answer ≡ 0 → (v ≡ allowed) × (o.image ≡ next)
     accepted_next _ (did j m) a e = (j, refl)
     accepted_next _ (left r f) a e = let n = number-refused r in let l = left_number 1 v bytes log at (omega arith) a r f in absurd (omega arith)
 
@@ -72,7 +68,7 @@ module _ {A : Type 0} (done-as : ℕ → A) (IsRefused-as : Refusal → A) (numb
     higher _ (did j m) a e = let f = number-done (length bytes) in omega arith
     higher _ (left r f) a e = let n = number-refused r in let l = left_number 2 v bytes log at (omega arith) a r f in omega arith
 
-  pub leaves : (v : Verdict) → Among 1 16 v → (is_sound img ≡ true → Among 2 16 v) → (v ≡ Accepted → is_sound next ≡ true)
+  pub leaves : (v : Verdict) → Among 1 16 v → (is_sound img ≡ true → Among 2 16 v) → (v ≡ allowed → is_sound next ≡ true)
       → Leaves number img log (perform done-as IsRefused-as v bytes next img log at)
   leaves v a b s =
       let o : Outcome A = perform done-as IsRefused-as v bytes next img log at in
@@ -109,25 +105,26 @@ module _ (img : Image) (log : List ℕ) (at : ℕ) where
 
   -- a call that answers its record's length alone
   pub act_leaves : (a : Act) → Leaves (λ a. (said a).number) img log (call_of img a log at)
-  act_leaves a = call_leaves Done NotDone (λ a. (said a).number) (λ n. refl) (λ r. refl) a
+  act_leaves a = call_leaves Ok Err (λ a. (said a).number) (λ n. refl) (λ r. refl) a
+
+  pub commit_leaves : (ops : List Operation) → Leaves (λ a. (said a).number) img log (commit_of img ops log at)
+  commit_leaves ops = act_leaves (commit ops)
 
   pub close_leaves : Leaves (λ a. (said_closing a).number) img log (close_of img log at)
-  close_leaves = call_leaves (closed img) NotClosed (λ a. (said_closing a).number) (λ n. refl) (λ r. refl) (single Close)
+  close_leaves = call_leaves (closed img) Err (λ a. (said_closing a).number) (λ n. refl) (λ r. refl) (single Close)
 
   pub local_leaves : (p : Partition) → Leaves (λ a. (said_freeing a).number) img log (local_of img p log at)
-  local_leaves p = call_leaves (freed img p) NotFreed (λ a. (said_freeing a).number) (λ n. refl) (λ r. refl) (single (Local p))
-
-  pub commit_leaves : (ops : List Operation) (n : ℕ) → Leaves (λ a. (said a).number) img log (commit_of img ops n log at)
-  unfolding commit_of judge_commit
-  commit_leaves ops n =
-      let a = check_among _ 6 0 _ (omega arith) (omega arith) (act_among _ _ img (commit (take n ops))) in
-      leaves _ _ (λ a. (said a).number) (λ n. refl) (λ r. refl) _ _ img log at _ (unsound_among img _ a)
-      (sound_among img _ a) (λ j. act_passes img (commit (take n ops)) (commit_sound img ops n j) (commit_judged img ops n j))
+  local_leaves p = call_leaves (freed img p) Err (λ a. (said_freeing a).number) (λ n. refl) (λ r. refl) (single (Local p))
 
 -- a chain that is told has number 0, wherever it starts
-pub told_number : (s : Start) (k : ℕ) → (said_reason (Held s k)).number ≡ 0
+pub told_number : (s : Start) (k : ℕ) → (said_reason (held_from s k)).number ≡ 0
 told_number (Root r) k = refl
 told_number (Handle h) k = refl
+
+answered_not_1 : {A : Type 0} (say : Result A Refusal → Said A) → ((a : A) → (say (Ok a)).number ≡ 0) → ((r : Refusal) → (say (Err r)).number ≡ r.number)
+    → (v : Verdict) (a : A) → Among 2 16 v → (say (answered v a)).number ≢ 1
+answered_not_1 say z q (Ok _) a accepted e = omega (arith, z a)
+answered_not_1 say z q (Err r) a (numbered _ l h) e = omega (arith, q r)
 
 -- the questions: on a sound image they are never refused with 1
 module _ (img : Image) (n : Name) where
@@ -137,33 +134,21 @@ module _ (img : Image) (n : Name) where
 
   pub read_not_1 : is_sound img ≡ true → (said_reading (reading_of img n)).number ≢ 1
   unfolding reading_of
-  read_not_1 s = go (judge_object img n) _ (object_among s)
-    where
-      go : (v : Verdict) (x : Record) → Among 2 16 v → (said_reading (reading v x)).number ≢ 1
-      go Accepted x accepted e = omega arith
-      go (Refused _) x (numbered r l h) e = omega arith
+  read_not_1 s = answered_not_1 said_reading (λ a. refl) (λ r. refl) _ _ (object_among s)
 
   pub ask_not_1 : is_sound img ≡ true → (said_asked (asked_of img n)).number ≢ 1
   unfolding asked_of
-  ask_not_1 s = go (judge_object img n) _ (object_among s)
-    where
-      go : (v : Verdict) (b : Bool) → Among 2 16 v → (said_asked (asked v b)).number ≢ 1
-      go Accepted true accepted e = omega arith
-      go Accepted false accepted e = omega arith
-      go (Refused _) b (numbered r l h) e = omega arith
+  ask_not_1 s = answered_not_1 said_asked (λ a. refl) (λ r. refl) _ _ (object_among s)
 
   pub why_not_1 : is_sound img ≡ true → (words : List ℕ) → (said_reason (why_of img n words).answer).number ≢ 1
   unfolding why_of
   why_not_1 s words = go (judge_object img n) (object_among s)
     where
       go : (v : Verdict) → Among 2 16 v → (said_reason (reasoned v (held_of (get img partitions * get img slots) (get img slots) img (place (get img slots) n) words) words).answer).number ≢ 1
-      go Accepted accepted = held_so _ _ img _ words (λ o. (said_reason o.answer).number ≢ 1) (λ e. omega arith) (λ e. omega arith) (λ c e. omega (arith, told_number (start_of c.start) (length c.fields)))
-      go (Refused _) (numbered r l h) = λ e. omega arith
+      go (Ok _) accepted = held_so _ _ img _ words (λ o. (said_reason o.answer).number ≢ 1) (λ e. omega arith) (λ e. omega arith) (λ c e. omega (arith, told_number (start_of c.start) (length c.fields)))
+      go (Err _) (numbered r l h) = λ e. omega arith
 
 pub outlist_not_1 : (img : Image) (p : Partition) → is_sound img ≡ true → (said_listing (listing_of img p)).number ≢ 1
 unfolding listing_of judge_foreign
-outlist_not_1 img p s = go (judge_foreign img p) _ (sound_among img _ (among_wider 6 16 _ (omega arith) (omega arith) (outlist_among _ p.0)) s)
-  where
-    go : (v : Verdict) (o : Outlist) → Among 2 16 v → (said_listing (listing v o)).number ≢ 1
-    go Accepted o accepted e = omega arith
-    go (Refused _) o (numbered r l h) e = omega arith
+outlist_not_1 img p s =
+    answered_not_1 said_listing (λ a. refl) (λ r. refl) _ _ (sound_among img _ (among_wider 6 16 _ (omega arith) (omega arith) (outlist_among _ p.0)) s)

@@ -7,7 +7,7 @@ use contract.Lifetimes.{Lfts}
 use borrow.Fn.Kinds.{Dens, res_t, ended_of}
 use denote.Triple.Clauses.{AtExit}
 use Rattle.model.specs.Image.{Image}
-use Rattle.kinds.specs.declared.Reason.{Reason}
+use Rattle.kinds.specs.Answers.{Reason}
 use Rattle.holding.specs.Finding.{Explained, explained}
 use Rattle.catalogue.specs.Call.{Outcome, outcome}
 use Rattle.catalogue.proofs.format.Kinds as format
@@ -49,8 +49,8 @@ pub format_once : (κs : Lfts 2) (xs : Dens κs format.ps) (a b : (res_t format.
     → format-reads.Post κs xs a s → format-reads.Post κs xs b t → Once a b s.0.now t.0.now s.1.1.1.0.now t.1.1.1.0.now
 format_once κs xs a b s t p q = once _ _ _ _ _ _ _ p q
 
-pub commit_once : (κs : Lfts 2) (xs : Dens κs commit.ps) (a b : (res_t commit.r κs).Denot) (s t : AtExit (ended_of 2 commit.ps commit.r) κs)
-    → commit-reads.Post κs xs a s → commit-reads.Post κs xs b t → Once a b s.0.now t.0.now s.1.1.1.0.now t.1.1.1.0.now
+pub commit_once : (κs : Lfts 3) (xs : Dens κs commit.ps) (a b : (res_t commit.r κs).Denot) (s t : AtExit (ended_of 3 commit.ps commit.r) κs)
+    → commit-reads.Post κs xs a s → commit-reads.Post κs xs b t → Once a b s.0.now t.0.now s.1.1.0.now t.1.1.0.now
 commit_once κs xs a b s t p q = once _ _ _ _ _ _ _ p q
 
 pub open_once : (κs : Lfts 2) (xs : Dens κs opening.ps) (a b : (res_t opening.r κs).Denot) (s t : AtExit (ended_of 2 opening.ps opening.r) κs)

@@ -1,20 +1,13 @@
 -- What each public call answers and leaves: one definition of its inputs, accepted or refused.
-use Rattle.std.specs.Prelude.{ℕ, ◌+◌, ◌*◌, Bool, cond, List, leb, length, take}
-use Rattle.kinds.specs.Names.{most_operations}
-use Rattle.kinds.specs.Answers.{blank_record, no_names}
+use Rattle.std.specs.Prelude.{ℕ, ◌+◌, ◌*◌, cond, List, leb, length, Result, Ok, Err}
 use Rattle.kinds.specs.declared.Name.{Name}
 use Rattle.kinds.specs.declared.Handle.{Handle}
 use Rattle.kinds.specs.declared.Partition.{Partition}
 use Rattle.kinds.specs.declared.Operation.{Operation}
 use Rattle.kinds.specs.declared.Single.{Single}
 use Rattle.kinds.specs.declared.Single.TheVariants.{Open, Trace, Close, Local, Hold, Drop}
-use Rattle.kinds.specs.declared.Record.{Record}
-use Rattle.kinds.specs.declared.Outlist.{Outlist}
 use Rattle.kinds.specs.declared.Refusal.{Refusal}
-use Rattle.kinds.specs.declared.Reason.{Reason}
-use Rattle.kinds.specs.declared.Reason.TheVariants.{Refused as NotHeld}
-use Rattle.kinds.specs.declared.Verdict.{Verdict}
-use Rattle.kinds.specs.declared.Verdict.TheVariants.{Accepted, Refused}
+use Rattle.kinds.specs.Answers.{Verdict, Reason}
 use Rattle.model.specs.Image.{Image, partitions, slots, count, get, length_of, blank, place}
 use Rattle.model.specs.Acts.{Act, commit, single, unmarked, local_freed, apply}
 use Rattle.model.specs.Judge.{check, judge, judge_format, judge_outlist, judge_name}
@@ -26,16 +19,7 @@ use Rattle.writer.specs.Record.{record_of, newest, heading_of}
 use Rattle.writer.specs.Write.{splice}
 use Rattle.catalogue.specs.declared.Subject.{Subject}
 use Rattle.catalogue.specs.declared.Subject.TheVariants.{Single as Acting, Outlist as Foreign, Object}
-use Rattle.catalogue.specs.declared.Answer.{Answer}
-use Rattle.catalogue.specs.declared.Answer.TheVariants.{Done, Refused as NotDone}
-use Rattle.catalogue.specs.declared.Closing.{Closing}
-use Rattle.catalogue.specs.declared.Closing.TheVariants.{Closed, Refused as NotClosed}
-use Rattle.catalogue.specs.declared.Freeing.{Freeing}
-use Rattle.catalogue.specs.declared.Freeing.TheVariants.{Freed, Refused as NotFreed}
-use Rattle.catalogue.specs.declared.Reading.{Reading}
-use Rattle.catalogue.specs.declared.Listing.{Listing}
-use Rattle.catalogue.specs.declared.Asked.{Asked}
-use Rattle.catalogue.specs.declared.Asked.TheVariants.{Yes, No, Refused as NotAsked}
+use Rattle.catalogue.specs.Answers.{Answer, Asked, Closing, Freeing, Listing, Reading, totals, yield}
 
 -- 17, judged last
 abbrev pub no_room : Refusal
@@ -53,8 +37,8 @@ module _ {A : Type 0} where
 
   -- refused: image and log buffer stay. Accepted: 17 where the record does not fit from the place, else the next image, and the record in its place
   unfoldable pub perform : (ℕ → A) → (Refusal → A) → Verdict → List ℕ → Image → Image → List ℕ → ℕ → Outcome A
-  perform done refused (Refused r) bytes next img log at = outcome (refused r) img log
-  perform done refused Accepted bytes next img log at =
+  perform done refused (Err r) bytes next img log at = outcome (refused r) img log
+  perform done refused (Ok _) bytes next img log at =
       cond (leb (at + length bytes) (length log)) (outcome (done (length bytes)) next (splice log at bytes))
       (outcome (refused no_room) img log)
 
@@ -69,13 +53,9 @@ apply_in img a = apply (get img partitions) (get img slots) img a
 unfoldable pub judge_act : Image → Act → Verdict
 judge_act img a = check (is_sound img) 1 0 (judge_in img a)
 
--- a commit of the first n of 32 operations: 6 where n is over 32
-unfoldable pub judge_commit : Image → List Operation → ℕ → Verdict
-judge_commit img ops n = check (is_sound img) 1 0 (check (leb n most_operations) 6 0 (judge_in img (commit (take n ops))))
-
 -- FORMAT 2, 17
 unfoldable pub format_of : Image → ℕ → ℕ → List ℕ → ℕ → Outcome Answer
-format_of img P S log at = perform Done NotDone (judge_format P S (length_of img)) (heading_of (newest P S)) (blank P S) img log at
+format_of img P S log at = perform Ok Err (judge_format P S (length_of img)) (heading_of (newest P S)) (blank P S) img log at
 
 -- an act's call, whatever the form of its answer: 1, the act's own list, 17
 module _ {A : Type 0} where
@@ -84,16 +64,15 @@ module _ {A : Type 0} where
 
 -- where the length of its record is all that it answers
 abbrev pub call_of : Image → Act → List ℕ → ℕ → Outcome Answer
-call_of img a log at = call_by Done NotDone img a log at
+call_of img a log at = call_by Ok Err img a log at
 
 -- what comes before the act itself: it is judged, and its line written
 abbrev pub admitted : Image → Single → List ℕ → ℕ → Outcome Answer
-admitted img a log at = perform Done NotDone (judge_act img (single a)) (record_of (single a)) img img log at
+admitted img a log at = perform Ok Err (judge_act img (single a)) (record_of (single a)) img img log at
 
 -- COMMIT 1, 6, each operation in turn, 17
-unfoldable pub commit_of : Image → List Operation → ℕ → List ℕ → ℕ → Outcome Answer
-commit_of img ops n log at =
-    perform Done NotDone (judge_commit img ops n) (record_of (commit (take n ops))) (apply_in img (commit (take n ops))) img log at
+abbrev pub commit_of : Image → List Operation → List ℕ → ℕ → Outcome Answer
+commit_of img ops log at = call_of img (commit ops) log at
 
 -- OPEN 1, 11, 12, 17
 abbrev pub open_of : Image → List ℕ → ℕ → Outcome Answer
@@ -105,17 +84,17 @@ trace_of img p log at = call_of img (single (Trace p)) log at
 
 -- CLOSE 1, 10, 12, 14, 16, 17; it answers the count and the number freed
 abbrev pub closed : Image → ℕ → Closing
-closed img n = Closed n (get img count) (unmarked (get img partitions * get img slots) img)
+closed img n = Ok (totals n (get img count) (unmarked (get img partitions * get img slots) img))
 
 abbrev pub close_of : Image → List ℕ → ℕ → Outcome Closing
-close_of img log at = call_by (closed img) NotClosed img (single Close) log at
+close_of img log at = call_by (closed img) Err img (single Close) log at
 
 -- LOCAL 1, 7, 12, 17; it answers the number freed
 abbrev pub freed : Image → Partition → ℕ → Freeing
-freed img p n = Freed n (local_freed (get img partitions) (get img slots) p.0 img)
+freed img p n = Ok (yield n (local_freed (get img partitions) (get img slots) p.0 img))
 
 abbrev pub local_of : Image → Partition → List ℕ → ℕ → Outcome Freeing
-local_of img p log at = call_by (freed img p) NotFreed img (single (Local p)) log at
+local_of img p log at = call_by (freed img p) Err img (single (Local p)) log at
 
 -- HOLD 1, 7, 9, 17
 abbrev pub hold_of : Image → Handle → Name → List ℕ → ℕ → Outcome Answer
@@ -139,34 +118,25 @@ judge_subject img (Acting a) = judge_act img (single a)
 judge_subject img (Foreign p) = judge_foreign img p
 judge_subject img (Object n) = judge_object img n
 
--- refused: payload 0 and four nothings
-abbrev pub reading : Verdict → Record → Reading
-reading Accepted r = record { verdict = Accepted; object = r }
-reading (Refused x) r = record { verdict = Refused x; object = blank_record }
+-- a question's answer, unless it is refused
+module _ {A : Type 0} where
+  abbrev pub answered : Verdict → A → Result A Refusal
+  answered (Ok _) a = Ok a
+  answered (Err r) a = Err r
 
 unfoldable pub reading_of : Image → Name → Reading
-reading_of img n = reading (judge_object img n) (read_of img (place (get img slots) n))
-
--- refused: number 0, and a zero for each name
-abbrev pub listing : Verdict → Outlist → Listing
-listing Accepted o = record { verdict = Accepted; outlist = o }
-listing (Refused x) o = record { verdict = Refused x; outlist = no_names }
+reading_of img n = answered (judge_object img n) (read_of img (place (get img slots) n))
 
 unfoldable pub listing_of : Image → Partition → Listing
-listing_of img p = listing (judge_foreign img p) (outlist (get img partitions) (get img slots) p.0 img)
-
--- refused: no
-abbrev pub asked : Verdict → Bool → Asked
-asked Accepted b = cond b Yes No
-asked (Refused x) b = NotAsked x
+listing_of img p = answered (judge_foreign img p) (outlist (get img partitions) (get img slots) p.0 img)
 
 unfoldable pub asked_of : Image → Name → Asked
-asked_of img n = asked (judge_object img n) (ask (get img partitions) (get img slots) img (place (get img slots) n))
+asked_of img n = answered (judge_object img n) (ask (get img partitions) (get img slots) img (place (get img slots) n))
 
 -- refused: the lent words stay
 abbrev pub reasoned : Verdict → Explained Reason → List ℕ → Explained Reason
-reasoned Accepted o words = o
-reasoned (Refused x) o words = explained (NotHeld x) words
+reasoned (Ok _) o words = o
+reasoned (Err x) o words = explained (Err x) words
 
 -- WHY 1, 7, 9, 18, 19
 unfoldable pub why_of : Image → Name → List ℕ → Explained Reason

@@ -2,9 +2,8 @@
 -- does not matter.
 -- Assumes nothing.
 use Prim.Native.Nat.{ℕ, ◌+◌, ◌*◌, ◌≤◌, ◌<◌}
-use mathlib.Core.Path.{◌≡◌, refl, sym, ap, ◌∙◌, subst}
+use mathlib.Core.Path.{◌≡◌, refl, sym, ap, ◌∙◌}
 use mathlib.Core.Bool.{Bool, true, false, not, cond}
-use mathlib.Core.List.{List}
 use mathlib.Core.Logic.{inl}
 use native.Mathlib.Omega.{arith}
 use lib.Dec.{eqb}
@@ -14,7 +13,7 @@ use Rattle.loops.specs.Loop.{both, again}
 use Rattle.loops.proofs.Walks.{each_same}
 use Rattle.model.specs.Image.{Image, head, state, field, get, part_of, a_field}
 use Rattle.model.specs.Spread.{follow, pass, spread}
-use Rattle.model.specs.Walk.{visit, Longer}
+use Rattle.model.specs.Walk.{visit}
 use Rattle.model.specs.Acts.{marked, mark, mark_word, refers, target, own, foreign, inside, outside}
 use Rattle.model.proofs.Places.{part_of_lem, slot_in, slot_of}
 use Rattle.model.proofs.Tracing.{refers_is}
@@ -23,7 +22,8 @@ use Rattle.model.proofs.Adding.{Added, as_is, one_more_lem}
 use Rattle.model.proofs.Walking.{Come, Walked, Done, Left, come_self, come_add, walked_first, walked_next, walked_end, walked_same}
 use Rattle.image.specs.Within.{Within}
 use Rattle.image.proofs.Within.{within_mark}
-use Rattle.collector.specs.Lists.{Listed, mark_fields}
+use Rattle.collector.specs.declared.found.Found.{Found}
+use Rattle.collector.specs.Lists.{Listed, Grown, mark_fields}
 use Rattle.collector.proofs.Marking.{markable, passes, Can, mark_none, mark_other, mark_past, commutes, passes_is, passes_so, spreads}
 
 abbrev all : ℕ → Bool
@@ -161,38 +161,38 @@ module _ (P S p : ℕ) (inp : p < P) where
   marks_head x h a l = added_head x a l (traced x h).come.added
 
 -- the loop: from x it has come to y, and is to visit the objects of the list from number `at` on (`inp` is kept because the type of `walked` speaks of it)
-pub record Walking (P S p : ℕ) (x y : Image) (list : List ℕ) (m at : ℕ) : Type 0 where
+pub record Walking (P S p : ℕ) (x y : Image) (list : Found) (at : ℕ) : Type 0 where
   pub begun : Within P S x
   pub inp : p < P
-  pub listed : Listed S p y list m
-  pub walked : Walked (spreads P S p inp all) x y (Left list m at)
+  pub listed : Listed S p y list
+  pub walked : Walked (spreads P S p inp all) x y (Left list.places list.number at)
 
 module _ {P S p : ℕ} {x : Image} where
-  pub walking_first : {list : List ℕ} {m : ℕ} → Within P S x → p < P → Listed S p x list m → Walking P S p x x list m 0
-  walking_first {list} {m} h inp d = record { begun = h; inp = inp; listed = d; walked = walked_first (spreads P S p inp all) x list m h d.todo }
+  pub walking_first : {list : Found} → Within P S x → p < P → Listed S p x list → Walking P S p x x list 0
+  walking_first {list} h inp d =
+      record { begun = h; inp = inp; listed = d; walked = walked_first (spreads P S p inp all) x list.places list.number h d.todo }
 
-  module _ {y : Image} {list : List ℕ} {m at : ℕ} (g : Walking P S p x y list m at) where
+  module _ {y : Image} {list : Found} {at : ℕ} (g : Walking P S p x y list at) where
     pub walking_within : Within P S y
     walking_within = g.walked.come.grown.ok
 
     -- the next object of the list is visited
-    module _ (lt : at < m) (j : ℕ) (e : j ≡ get_or list at 0) where
+    module _ {j : ℕ} (n : (at < list.number) × (j ≡ get_or list.places at 0)) where
       pub next_in : j < P * S
-      next_in = let n = g.listed.todo.held at lt in rw (e, ← n.2) (slot_in P S g.begun.limits.some_slot p n.0 g.inp n.1)
+      next_in = let h = g.listed.todo.held at n.0 in rw (n.1, ← h.2) (slot_in P S g.begun.limits.some_slot p h.0 g.inp h.1)
 
-      pub walking_next : {y' : Image} {list' : List ℕ} {m' : ℕ} → y' ≡ mark_fields S y j → Listed S p y' list' m' → Longer list m list' m' → (n : ℕ) → n ≡ m' → Walking P S p x y' list' n (at + 1)
-      walking_next {y' = y'} {list' = list'} q d more n r =
-          subst (λ (v : ℕ). Walking P S p x y' list' v (at + 1)) (sym r)
+      pub walking_next : {y' : Image} {list' : Found} → (y' ≡ mark_fields S y j) × Listed S p y' list' × Grown list list' → Walking P S p x y' list' (at + 1)
+      walking_next v =
           record {
             begun = g.begun;
             inp = g.inp;
-            listed = d;
+            listed = v.1;
             walked =
-                walked_next (spreads P S p g.inp all) g.walked g.listed.todo d.todo more lt j e
-                (q ∙ visit_fields S y j);
+                walked_next (spreads P S p g.inp all) g.walked g.listed.todo v.1.todo v.2 n.0 j n.1
+                (v.0 ∙ visit_fields S y j);
           }
 
-    pub walking_end : m ≤ at → y ≡ outside S p (inside S p x)
+    pub walking_end : list.number ≤ at → y ≡ outside S p (inside S p x)
     walking_end le =
         walked_same (spreads P S p g.inp all) (commutes P S)
-        (walked_end (spreads P S p g.inp all) list m at le g.walked) (traced P S p g.inp x g.begun)
+        (walked_end (spreads P S p g.inp all) list.places list.number at le g.walked) (traced P S p g.inp x g.begun)

@@ -1,2 +1,2 @@
-pub mod Sweeps
+pub mod Closed
 pub mod Lists

@@ -12,15 +12,15 @@ use lib.Seq.{length-take-le, drop-drop}
 use borrow.Author.Tests.{lt-ltb, le-leb, lt-leb}
 use borrow.Rule.Slice.PartMut.{put_mid}
 use Rattle.journal.specs.Recover.{recover_of, byte_of}
-use Rattle.recovery.specs.declared.Recovery.{Recovery}
-use Rattle.recovery.specs.declared.Recovery.TheVariants.{Kept, Refused}
+use Rattle.recovery.specs.Answers.{Recovery}
+use Rattle.std.specs.Prelude.{Ok, Err}
 use Rattle.recovery.specs.Answers.{out, byte_in}
 use Rattle.writer.specs.Write.{splice}
 use Rattle.catalogue.specs.Call.{outcome}
 use Rattle.scripts.specs.declared.command.Next.TheVariants.{Number}
 use Rattle.scripts.specs.Commands.{next_number}
 use Rattle.desk.specs.declared.Desk.{Desk}
-use Rattle.desk.specs.declared.Response.TheVariants.{What, Ok, Recovered}
+use Rattle.desk.specs.declared.Response.TheVariants.{What, Ok as Fine, Recovered}
 use Rattle.desk.specs.Desk.{turn, keeping, recover_for, Put, put, listed_from, bytes_of, most_bytes, put_at, put_from, lending, lend_first}
 
 -- lending the first n of a list
@@ -29,7 +29,7 @@ module _ (n x : ℕ) (d e : Desk) (xs : List ℕ) where
   unfolding lend_first
   lend_not h = rw (lt-leb n (length xs) h)
 
-  pub lend_done : n ≤ length xs → (ys : List ℕ) → ys ≡ replicate (length (take n xs)) x → lending (turn e Ok) (ys ++ drop n xs) ≡ lend_first n x d e xs
+  pub lend_done : n ≤ length xs → (ys : List ℕ) → ys ≡ replicate (length (take n xs)) x → lending (turn e Fine) (ys ++ drop n xs) ≡ lend_first n x d e xs
   unfolding lend_first
   lend_done h ys q = rw (le-leb n (length xs) h, q, length-take-le n xs h)
 
@@ -43,12 +43,12 @@ module _ (at : ℕ) (xs log : List ℕ) where
   unfolding put_at
   put_over h = rw (lt-leb (at + length xs) (length log) h) (either (ltb 0 (length xs)))
     where
-      either : (b : Bool) → put What log ≡ cond (both b false) (put Ok (splice log at xs)) (put What log)
+      either : (b : Bool) → put What log ≡ cond (both b false) (put Fine (splice log at xs)) (put What log)
       either true = refl
       either false = refl
 
   pub put_done : (length xs ≡ 0 → ⊥) → at + length xs ≤ length log → (m : List ℕ) → m ≡ xs
-      → put Ok (put_mid at (at + length xs - at) log m) ≡ put_at at xs log
+      → put Fine (put_mid at (at + length xs - at) log m) ≡ put_at at xs log
   unfolding put_at splice
   put_done some h m q =
       let n : at + length xs - at ≡ length xs = omega arith in
@@ -67,5 +67,5 @@ unfolding recover_for
 recovered n img log h r left q = rw (le-leb n (length log) h, ← q.1, ← q.0) (same r)
   where
     same : (r : Recovery) → outcome (Recovered r) left log ≡ outcome (Recovered (keeping (out r left).verdict (out r left).kept (byte_in r))) (out r left).image log
-    same (Kept k) = refl
-    same (Refused f b) = refl
+    same (Ok k) = refl
+    same (Err f) = refl

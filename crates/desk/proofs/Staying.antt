@@ -19,7 +19,7 @@ use Rattle.catalogue.specs.Call.{Outcome, outcome}
 use Rattle.desk.specs.declared.Desk.{Desk}
 use Rattle.desk.specs.declared.Turn.{Turn}
 use Rattle.desk.specs.Desk.{Lent, desk, turn, lending, is_commit, after_deed, lend_first, turn_of}
-use Rattle.desk.specs.declared.Response.TheVariants.{Ok, What as Asked}
+use Rattle.desk.specs.declared.Response.TheVariants.{Ok as Fine, What as Asked}
 
 pub record Stays (d e : Desk) (img log : List ℕ) : Type 0 where
   pub words : e.words ≤ length img
@@ -34,7 +34,7 @@ module _ (line : List ℕ) (d : Desk) (ops : List Operation) (img log : List ℕ
   unfolding lend_first
   lent n x e xs h = go (leb n (length xs)) refl
     where
-      go : (b : Bool) → leb n (length xs) ≡ b → Stays d (cond b (lending (turn e Ok) (replicate n x ++ drop n xs)) (lending (turn d Asked) xs)).turn.desk img log
+      go : (b : Bool) → leb n (length xs) ≡ b → Stays d (cond b (lending (turn e Fine) (replicate n x ++ drop n xs)) (lending (turn d Asked) xs)).turn.desk img log
       go true q = h (leb-true n (length xs) q)
       go false q = itself
 

@@ -2,13 +2,12 @@
 use Rattle.std.specs.Prelude.{ℕ, zero, suc, ◌+◌, ◌≤◌, Bool, true, false, cond, List, [], ◌∷◌, ◌++◌, ltb, leb, length, take, drop, set, replicate}
 use Rattle.kinds.specs.declared.Operation.{Operation}
 use Rattle.kinds.specs.declared.Single.TheVariants.{Open, Trace, Close, Local, Hold, Drop}
-use Rattle.kinds.specs.declared.Verdict.{Verdict}
-use Rattle.kinds.specs.declared.Verdict.TheVariants.{Accepted, Refused}
+use Rattle.kinds.specs.Answers.{Verdict}
+use Rattle.std.specs.Prelude.{Ok, Err}
 use Rattle.loops.specs.Loop.{both}
 use Rattle.model.specs.Image.{Image}
 use Rattle.journal.specs.Recover.{Recovered as A-recovery, recover_of, byte_of}
-use Rattle.recovery.specs.declared.Recovery.{Recovery}
-use Rattle.recovery.specs.declared.Recovery.TheVariants.{Kept, Refused as NotKept}
+use Rattle.recovery.specs.Answers.{Recovery, fault_from}
 use Rattle.writer.specs.Write.{splice}
 use Rattle.catalogue.specs.Call.{Outcome, outcome, format_of, commit_of, open_of, trace_of, close_of, local_of, hold_of, drop_of}
 use Rattle.scripts.specs.declared.command.Next.{Next}
@@ -22,7 +21,7 @@ use Rattle.scripts.specs.declared.order.Order.TheVariants.{Nothing, What, Image 
 use Rattle.scripts.specs.Commands.{next_number}
 use Rattle.desk.specs.declared.Desk.{Desk}
 use Rattle.desk.specs.declared.Response.{Response}
-use Rattle.desk.specs.declared.Response.TheVariants.{Nothing as Unanswered, What as Asked-what, Ok, Waits, Done, Closed, Freed, Recovered, Look as Seen}
+use Rattle.desk.specs.declared.Response.TheVariants.{Nothing as Unanswered, What as Asked-what, Ok as Fine, Waits, Done, Closed, Freed, Recovered, Look as Seen}
 use Rattle.desk.specs.declared.Turn.{Turn}
 
 -- no more words and bytes are lent than there are
@@ -50,8 +49,8 @@ module _ {A : Type 0} where
 
 -- the answer of a recovery: the kept length, or the refusal with its byte
 abbrev pub keeping : Verdict → ℕ → ℕ → Recovery
-keeping Accepted k b = Kept k
-keeping (Refused r) k b = NotKept r b
+keeping (Ok _) k b = Ok k
+keeping (Err r) k b = fault_from r b
 
 -- recovery of the first n bytes of the log buffer
 unfoldable pub recover_for : ℕ → Image → List ℕ → Outcome Response
@@ -70,7 +69,7 @@ put s xs = record { said = s; list = xs }
 
 -- one word
 unfoldable pub put_word : ℕ → ℕ → Image → Put
-put_word i v img = cond (ltb i (length img)) (put Ok (set img i v)) (put Asked-what img)
+put_word i v img = cond (ltb i (length img)) (put Fine (set img i v)) (put Asked-what img)
 
 -- `log` asks for more bytes than are lent
 abbrev pub past : A_look → ℕ → Bool
@@ -86,19 +85,19 @@ past Help lent = false
 unfoldable pub seen_for : A_look → ℕ → Response
 seen_for l lent = cond (past l lent) Asked-what (Seen l)
 
--- A DEED, with n operations waiting
-abbrev pub deed_of : A-deed → List Operation → ℕ → Image → List ℕ → Outcome Response
-deed_of (Word i v) ops n img log = outcome (put_word i v img).said (put_word i v img).list log
-deed_of (Format p s at) ops n img log = answered Done (format_of img p s log at)
-deed_of (Commit at) ops n img log = answered Done (commit_of img ops n log at)
-deed_of (Single Open at) ops n img log = answered Done (open_of img log at)
-deed_of (Single (Trace p) at) ops n img log = answered Done (trace_of img p log at)
-deed_of (Single Close at) ops n img log = answered Closed (close_of img log at)
-deed_of (Single (Local p) at) ops n img log = answered Freed (local_of img p log at)
-deed_of (Single (Hold h o) at) ops n img log = answered Done (hold_of img h o log at)
-deed_of (Single (Drop h) at) ops n img log = answered Done (drop_of img h log at)
-deed_of (Recover k) ops n img log = recover_for k img log
-deed_of (Look l) ops n img log = outcome (seen_for l (length log)) img log
+-- A DEED, with these operations waiting
+abbrev pub deed_of : A-deed → List Operation → Image → List ℕ → Outcome Response
+deed_of (Word i v) ops img log = outcome (put_word i v img).said (put_word i v img).list log
+deed_of (Format p s at) ops img log = answered Done (format_of img p s log at)
+deed_of (Commit at) ops img log = answered Done (commit_of img ops log at)
+deed_of (Single Open at) ops img log = answered Done (open_of img log at)
+deed_of (Single (Trace p) at) ops img log = answered Done (trace_of img p log at)
+deed_of (Single Close at) ops img log = answered Closed (close_of img log at)
+deed_of (Single (Local p) at) ops img log = answered Freed (local_of img p log at)
+deed_of (Single (Hold h o) at) ops img log = answered Done (hold_of img h o log at)
+deed_of (Single (Drop h) at) ops img log = answered Done (drop_of img h log at)
+deed_of (Recover k) ops img log = recover_for k img log
+deed_of (Look l) ops img log = outcome (seen_for l (length log)) img log
 
 -- the bytes that stand in a line from a place on
 pub data Listed : Type 0 where
@@ -129,7 +128,7 @@ most_bytes = 65536
 
 -- one byte or more from a place on, within the log
 unfoldable pub put_at : ℕ → List ℕ → List ℕ → Put
-put_at at xs log = cond (both (ltb 0 (length xs)) (leb (at + length xs) (length log))) (put Ok (splice log at xs)) (put Asked-what log)
+put_at at xs log = cond (both (ltb 0 (length xs)) (leb (at + length xs) (length log))) (put Fine (splice log at xs)) (put Asked-what log)
 
 -- `bytes`: the place, then the bytes
 abbrev pub putting : Next → List ℕ → List ℕ → Put
@@ -153,7 +152,7 @@ abbrev pub lending : Turn → List ℕ → Lending
 lending t xs = record { turn = t; list = xs }
 
 unfoldable pub lend_first : ℕ → ℕ → Desk → Desk → List ℕ → Lending
-lend_first n x d e xs = cond (leb n (length xs)) (lending (turn e Ok) (replicate n x ++ drop n xs)) (lending (turn d Asked-what) xs)
+lend_first n x d e xs = cond (leb n (length xs)) (lending (turn e Fine) (replicate n x ++ drop n xs)) (lending (turn d Asked-what) xs)
 
 abbrev pub words_for : ℕ → Desk → Image → Lending
 words_for n d img = lend_first n 0 d (desk n d.bytes d.waits) img
@@ -173,6 +172,10 @@ is_commit (Look l) = false
 unfoldable pub after_deed : A-deed → Desk → Desk
 after_deed x d = cond (is_commit x) (desk d.words d.bytes 0) d
 
+-- the operations that are handed over: the first, as many as wait; where more wait than there are, none: a commit is refused for no operation as for too many
+abbrev pub handed : ℕ → List Operation → List Operation
+handed n ops = cond (ltb (length ops) n) [] (take n ops)
+
 -- A LINE: what it asks for, and its bytes
 unfoldable pub turn_of : Order → List ℕ → Desk → List Operation → Image → List ℕ → Outcome Turn
 turn_of Nothing line d ops img log = outcome (turn d Unanswered) img log
@@ -181,4 +184,4 @@ turn_of (Lend-words n) line d ops img log = outcome (words_for n d img).turn (wo
 turn_of (Lend-bytes n) line d ops img log = outcome (bytes_for n d log).turn img (bytes_for n d log).list
 turn_of (Bytes from) line d ops img log = outcome (turn d (put_on d.bytes line from log).said) img (put_on d.bytes line from log).list
 turn_of (Wait o) line d ops img log = outcome (turn (desk d.words d.bytes (d.waits + 1)) (Waits (d.waits + 1))) img log
-turn_of (Deed x) line d ops img log = answered (turn (after_deed x d)) (on_lent d (deed_of x ops d.waits) img log)
+turn_of (Deed x) line d ops img log = answered (turn (after_deed x d)) (on_lent d (deed_of x (handed d.waits ops)) img log)

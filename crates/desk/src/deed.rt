@@ -33,13 +33,8 @@ fn past(l: Look, lent: usize) -> bool
     ensures { result ≡ past l lent }
 {
     match l {
-        Look::Read(_) => false,
-        Look::Ask(_) => false,
-        Look::Outlist(_) => false,
-        Look::Digest => false,
-        Look::Show => false,
         Look::Log(n) => lent < n,
-        Look::Help => false,
+        _ => false,
     }
 }
 
@@ -53,20 +48,14 @@ fn seen(l: Look, lent: usize) -> Response
     Response::Look(l)
 }
 
-// A deed, with n operations waiting.
-pub(crate) fn deed(
-    x: Deed,
-    ops: [Operation; Operation::LIMIT],
-    n: usize,
-    img: &mut [u32],
-    log: &mut [u8],
-) -> Response
-    ensures { outcome result img.new log.new ≡ deed_of x ops n img.old log.old }
+// A deed, with these operations waiting.
+pub(crate) fn deed(x: Deed, ops: &[Operation], img: &mut [u32], log: &mut [u8]) -> Response
+    ensures { outcome result img.new log.new ≡ deed_of x ops.now img.old log.old }
 {
     match x {
         Deed::Word(i, v) => word(i, v, img),
         Deed::Format(p, s, at) => Response::Done(catalogue::format(img, p, s, log, at)),
-        Deed::Commit(at) => Response::Done(catalogue::commit(img, ops, n, log, at)),
+        Deed::Commit(at) => Response::Done(catalogue::commit(img, ops, log, at)),
         Deed::Single(a, at) => match a {
             Single::Open => Response::Done(catalogue::open(img, log, at)),
             Single::Trace(p) => Response::Done(catalogue::trace(img, p, log, at)),

@@ -14,25 +14,14 @@ pub(crate) fn lend_words(n: usize, d: Desk, img: &mut [u32]) -> Turn
         return d.says(Response::What);
     }
     image::clear(&mut img[..n]);
-    Turn {
-        desk: Desk {
-            words: n,
-            bytes: d.bytes,
-            waits: d.waits,
-        },
-        said: Response::Ok,
-    }
+    Desk { words: n, ..d }.says(Response::Ok)
 }
 
 // Bytes 46.
 fn dot(bytes: &mut [u8])
     ensures { bytes.new ≡ replicate (length bytes.old) 46 }
 {
-    let mut i = 0;
-    while i < bytes.len() {
-        bytes[i] = 46;
-        i += 1;
-    }
+    bytes.fill(b'.');
 }
 
 // `buffer`: the first n bytes are lent, and become 46.
@@ -43,24 +32,11 @@ pub(crate) fn lend_bytes(n: usize, d: Desk, log: &mut [u8]) -> Turn
         return d.says(Response::What);
     }
     dot(&mut log[..n]);
-    Turn {
-        desk: Desk {
-            words: d.words,
-            bytes: n,
-            waits: d.waits,
-        },
-        said: Response::Ok,
-    }
+    Desk { bytes: n, ..d }.says(Response::Ok)
 }
 
-// Room for the bytes of a line: as many as a log buffer has.
-fn room() -> [u8; 65536]
-    ensures { 65536 ≡ length result }
-{
-    [0; 65536]
-}
-
-// The bytes that stand in a line from a place on, and how many; 0 where there is none, or a word that is no byte, or too little room.
+// The bytes that stand in a line from a place on, and how many; 0 where there is none, or a word that is no byte, or too little room: a count as it
+// is promised, of which the caller makes nothing else. (No `for`: where a word stands is known once the one before it is read.)
 fn listed(line: &[u8], from: usize, list: &mut [u8]) -> usize
     ensures prefix_len { IsPrefixLen result list.new }
     ensures list_after { take result list.new ≡ bytes_of (listed_from (length list.old) line.now from) }
@@ -111,7 +87,8 @@ pub(crate) fn put_bytes(line: &[u8], from: usize, log: &mut [u8]) -> Response
         Next::Nothing => Response::What,
         Next::Bad => Response::What,
         Next::Number(at, to) => {
-            let mut list = room();
+            // Room for the bytes of a line: as many as a log buffer has.
+            let mut list = [0u8; 65536];
             let n = listed(line, to, &mut list);
             put_at(at as usize, &list[..n], log)
         }

@@ -9,13 +9,13 @@ mod lend;
 ghost use Rattle.std.specs.Prelude.{◌+◌, ◌≤◌, ◌<◌, ◌^◌, ◌≡◌, length};
 ghost use Rattle.catalogue.specs.Call.{outcome};
 ghost use Rattle.desk.specs.declared.Response.TheVariants.{Waits};
-ghost use Rattle.desk.specs.Desk.{Lent, desk, turn, on_lent, deed_of, put, put_on, is_commit, after_deed, turn_of};
+ghost use Rattle.desk.specs.Desk.{Lent, desk, turn, on_lent, deed_of, put, put_on, is_commit, after_deed, handed, turn_of};
 
 use crate::deed::deed;
 use crate::lend::{lend_bytes, lend_words, put_bytes};
-use catalogue::{Answer, Closing, Freeing};
-use kinds::Operation;
-use recovery::Recovery;
+use catalogue::{Closed, Freed};
+use kinds::{Operation, Refusal};
+use recovery::Fault;
 use scripts::order::{Deed, Look, Order};
 
 // How many words and bytes are lent, and how many operations wait.
@@ -34,10 +34,10 @@ pub enum Response {
     What,
     Ok,
     Waits(usize),
-    Done(Answer),
-    Closed(Closing),
-    Freed(Freeing),
-    Recovered(Recovery),
+    Done(Result<usize, Refusal>),
+    Closed(Result<Closed, Refusal>),
+    Freed(Result<Freed, Refusal>),
+    Recovered(Result<usize, Fault>),
     // What is seen there.
     Look(Look),
 }
@@ -62,8 +62,8 @@ impl Desk {
         ensures { result ≡ desk words bytes 0 }
     {
         Desk {
-            words: words,
-            bytes: bytes,
+            words,
+            bytes,
             waits: 0,
         }
     }
@@ -73,11 +73,7 @@ impl Desk {
         ensures { result ≡ after_deed x self }
     {
         if is_commit(x) {
-            return Desk {
-                words: self.words,
-                bytes: self.bytes,
-                waits: 0,
-            };
+            return Desk { waits: 0, ..self };
         }
         self
     }
@@ -87,55 +83,42 @@ impl Desk {
         requires { self.waits + 1 < 2 ^ 64 }
         ensures { result ≡ turn (desk self.words self.bytes (self.waits + 1)) (Waits (self.waits + 1)) }
     {
-        let n = self.waits + 1;
-        Turn {
-            desk: Desk {
-                words: self.words,
-                bytes: self.bytes,
-                waits: n,
-            },
-            said: Response::Waits(n),
-        }
+        let waits = self.waits + 1;
+        Desk { waits, ..self }.says(Response::Waits(waits))
     }
 
     // The desk as it is, and an answer.
     pub(crate) fn says(self, said: Response) -> Turn
         ensures { result ≡ turn self said }
     {
-        Turn {
-            desk: self,
-            said: said,
-        }
+        Turn { desk: self, said }
     }
 }
 
 fn is_commit(x: Deed) -> bool
     ensures { result ≡ is_commit x }
 {
-    match x {
-        Deed::Word(_, _) => false,
-        Deed::Format(_, _, _) => false,
-        Deed::Commit(_) => true,
-        Deed::Single(_, _) => false,
-        Deed::Recover(_) => false,
-        Deed::Look(_) => false,
-    }
+    matches!(x, Deed::Commit(_))
 }
 
-// A deed on what is lent.
-fn deed_on(
-    x: Deed,
-    d: Desk,
-    ops: [Operation; Operation::LIMIT],
-    img: &mut [u32],
-    log: &mut [u8],
-) -> Response
+// The operations that are handed over: the first, as many as wait. Where more wait than there are, none: a commit is refused for no operation as for too many.
+fn handed(ops: &[Operation], waits: usize) -> &[Operation]
+    ensures { result.now ≡ handed waits ops.now }
+{
+    if ops.len() < waits {
+        return &ops[..0];
+    }
+    &ops[..waits]
+}
+
+// A deed on what is lent, with the operations that are handed over.
+fn deed_on(x: Deed, d: Desk, ops: &[Operation], img: &mut [u32], log: &mut [u8]) -> Response
     requires { Lent d img.old log.old }
-    ensures { outcome result img.new log.new ≡ on_lent d (deed_of x ops d.waits) img.old log.old }
+    ensures { outcome result img.new log.new ≡ on_lent d (deed_of x (handed d.waits ops.now)) img.old log.old }
 {
     let m = d.words;
     let n = d.bytes;
-    deed(x, ops, d.waits, &mut img[..m], &mut log[..n])
+    deed(x, handed(ops, d.waits), &mut img[..m], &mut log[..n])
 }
 
 // `bytes` on what is lent.
@@ -146,18 +129,18 @@ fn bytes_on(line: &[u8], from: usize, n: usize, log: &mut [u8]) -> Response
     put_bytes(line, from, &mut log[..n])
 }
 
-// One line of the script: what it asks for, and its bytes.
+// One line of the script: what it asks for, and its bytes. Of the operations the first are those that wait.
 pub fn step(
     o: Order,
     line: &[u8],
     d: Desk,
-    ops: [Operation; Operation::LIMIT],
+    ops: &[Operation],
     img: &mut [u32],
     log: &mut [u8],
 ) -> Turn
     requires lent { Lent d img.old log.old }
     requires waits_bound { d.waits + 1 < 2 ^ 64 }
-    ensures { outcome result img.new log.new ≡ turn_of o line.now d ops img.old log.old }
+    ensures { outcome result img.new log.new ≡ turn_of o line.now d ops.now img.old log.old }
 {
     match o {
         Order::Nothing => d.says(Response::Nothing),

@@ -1,31 +1,30 @@
 -- What C is told, from what the calls ensure.
 -- Assumes nothing.
-use Prim.Native.Nat.{ℕ, ◌+◌, ◌≤◌, ◌<◌}
+use Prim.Native.Nat.{ℕ, ◌+◌, ◌≤◌, ◌<◌, min}
 use mathlib.Core.Path.{◌≡◌, refl, sym, ap, ◌∙◌}
 use mathlib.Core.Bool.{Bool, true, false}
 use mathlib.Core.List.{List, map}
+use mathlib.Core.Logic.{⊎_elim}
 use native.Mathlib.Numerals.{add-one}
 use native.Mathlib.Omega.{arith}
-use lib.Dec.{leb}
+use lib.Dec.{ltb}
 use lib.ListN.{length, get_or, take, set, length-map, get_or-map}
-use lib.Seq.{take-suc, take-suc-set}
-use borrow.Author.Tests.{leb-true}
+use lib.Seq.{take-suc, take-suc-set, take_all, length-take-le}
+use borrow.Author.Tests.{lt-leb}
 use Rattle.kinds.specs.Names.{most_operations}
 use Rattle.kinds.specs.declared.Operation.{Operation}
-use Rattle.kinds.specs.declared.Verdict.{Verdict}
+use Rattle.kinds.specs.Answers.{Verdict}
 use Rattle.model.specs.Image.{Image}
-use Rattle.model.specs.Acts.{commit}
-use Rattle.model.specs.Judge.{check}
+use Rattle.model.specs.Judge.{check, judge}
+use Rattle.loops.proofs.Tests.{both_false, lt_or_ge}
 use Rattle.model.specs.Sound.{is_sound}
-use Rattle.writer.specs.Record.{record_of}
 use Rattle.journal.specs.Recover.{Recovered, byte_of}
 use Rattle.recovery.specs.Answers.{out, byte_in}
-use Rattle.recovery.specs.declared.Recovery.{Recovery}
-use Rattle.recovery.specs.declared.Recovery.TheVariants.{Kept, Refused as NotKept}
-use Rattle.catalogue.specs.declared.Answer.{Answer}
-use Rattle.catalogue.specs.declared.Answer.TheVariants.{Done, Refused as NotDone}
+use Rattle.recovery.specs.Answers.{Recovery}
+use Rattle.std.specs.Prelude.{Err, Ok}
+use Rattle.catalogue.specs.Answers.{Answer}
 use Rattle.catalogue.specs.Answers.{Said, said_verdict, totals, yield, said}
-use Rattle.catalogue.specs.Call.{Outcome, outcome, perform, judge_in, apply_in, judge_commit, commit_of}
+use Rattle.catalogue.specs.Call.{Outcome, outcome, perform, judge_act, call_by, commit_of}
 use Rattle.heidrunok.specs.Face.{told, seen, restored, said_recovered, operation_of, commit_by}
 
 -- a logged call, its answer said in numbers
@@ -45,8 +44,8 @@ pub yield_told : (n e v f : ℕ) (s : Said ℕ) → told n e v ≡ s → told n 
 yield_told n e v f = told_more (λ k. yield k f) n e v
 
 abbrev answer_of : Recovery → Answer
-answer_of (Kept k) = Done k
-answer_of (NotKept r b) = NotDone r
+answer_of (Ok k) = Ok k
+answer_of (Err f) = Err f.refusal
 
 pub recover_told : (n e v : ℕ) (y : Image) (log : List ℕ) (a b : Recovery) (x : Recovered) → told n e v ≡ said (answer_of b) → a ≡ b
     → (out a y ≡ x) × (byte_in a ≡ byte_of log x.verdict) → told n e (restored v (byte_in b) y) ≡ said_recovered log x
@@ -54,8 +53,8 @@ recover_told n e v y log a b x q g o = told_more (λ k. restored k (byte_in b) y
   where
     go : (b : Recovery) → let s = said (answer_of b) in
         told s.number s.extra (restored s.value (byte_in b) y) ≡ said_verdict (out b y).verdict (restored (out b y).kept (byte_in b) (out b y).image)
-    go (Kept k) = refl
-    go (NotKept r b) = refl
+    go (Ok k) = refl
+    go (Err f) = refl
 
 -- no extra answer
 module _ {A : Type 0} where
@@ -69,27 +68,32 @@ taken_more ws ops i d o l m e f =
     let k : i < length (map operation_of ws) = omega (arith, length-map ws operation_of) in
     rw (add-one i, take-suc-set ops i o m, take-suc (map operation_of ws) i (operation_of d) k, get_or-map operation_of ws i d, e, f)
 
--- a commit of more than 32 is refused whatever they are, and one of fewer looks at no others
+-- a commit of more than 32 is refused whatever they are, and 33 are enough to see that there are more
 module _ (img : Image) (log : List ℕ) (at : ℕ) where
   too_many_lem : (b : Bool) (u v : Verdict) (bs cs : List ℕ) (y z : Image)
-      → perform Done NotDone (check b 1 0 (check false 6 0 u)) bs y img log at ≡ perform Done NotDone (check b 1 0 (check false 6 0 v)) cs z img log at
+      → perform Ok Err (check b 1 0 (check false 6 0 u)) bs y img log at ≡ perform Ok Err (check b 1 0 (check false 6 0 v)) cs z img log at
   unfolding perform check
   too_many_lem true u v bs cs y z = refl
   too_many_lem false u v bs cs y z = refl
 
-  commit_taken : (os qs : List Operation) (n : ℕ) → (n ≤ most_operations → take n os ≡ take n qs) → commit_of img os n log at ≡ commit_of img qs n log at
-  unfolding commit_of judge_commit
-  commit_taken os qs n h = go (leb n most_operations) refl
+  too_many : (os qs : List Operation) → most_operations < length os → most_operations < length qs → commit_of img os log at ≡ commit_of img qs log at
+  unfolding call_by judge_act judge
+  too_many os qs l m =
+      rw (lt-leb (length os) most_operations l, both_false (ltb 0 (length os)), lt-leb (length qs) most_operations m, both_false (ltb 0 (length qs)))
+      (too_many_lem (is_sound img) _ _ _ _ _ _)
+
+  pub commit_looked : (ws : List (List ℕ)) (ops : List Operation) (n : ℕ) → n ≡ min (length ws) 33 → n ≤ length ops → take n ops ≡ take n (map operation_of ws)
+      → commit_of img (take n ops) log at ≡ commit_by img ws log at
+  commit_looked ws ops n e l t = ⊎_elim few many (lt_or_ge 33 (length ws))
     where
-      by : Bool → List Operation → Outcome Answer
-      by b zs = perform Done NotDone (check (is_sound img) 1 0 (check b 6 0 (judge_in img (commit zs)))) (record_of (commit zs)) (apply_in img (commit zs)) img log at
+      all : List Operation
+      all = map operation_of ws
 
-      go : (b : Bool) → leb n most_operations ≡ b → by b (take n os) ≡ by b (take n qs)
-      go true e = ap (by true) (h (leb-true n most_operations e))
-      go false e = too_many_lem (is_sound img) _ _ _ _ _ _
+      long : length all ≡ length ws
+      long = length-map ws operation_of
 
-  pub commit_looked : (ws : List (List ℕ)) (ops : List Operation) (most i : ℕ) → (most ≤ length ws) × (most ≤ most_operations) × (length ws ≤ most_operations → most ≡ length ws)
-      → i ≤ most → most ≤ i → take i ops ≡ take i (map operation_of ws) → commit_of img ops (length ws) log at ≡ commit_by img ws log at
-  commit_looked ws ops most i m u v e =
-      commit_taken ops (map operation_of ws) (length ws)
-      (λ few. let w : i ≡ length ws = omega (arith, m.2 few) in rw (← w) e)
+      many : length ws ≤ 33 → commit_of img (take n ops) log at ≡ commit_of img all log at
+      many h = ap (λ (os : List Operation). commit_of img os log at) (t ∙ take_all n all (omega (arith, long)))
+
+      few : 33 < length ws → commit_of img (take n ops) log at ≡ commit_of img all log at
+      few h = too_many (take n ops) all (omega (arith, length-take-le n ops l)) (omega (arith, long))

@@ -9,7 +9,7 @@ use lib.Dec.{eqb}
 use lib.ListN.{length, get_or}
 use borrow.Author.Tests.{ne_eqb}
 use Rattle.kinds.specs.Answers.{refuse}
-use Rattle.kinds.specs.declared.Verdict.TheVariants.{Accepted}
+use Rattle.kinds.specs.Answers.{allowed}
 use Rattle.model.specs.Image.{Image}
 use Rattle.model.specs.Acts.{perform}
 use Rattle.model.specs.Judge.{check, and_then, judge_op, judge_ops}
@@ -29,7 +29,7 @@ module _ (P S : ℕ) where
 
   -- in a transaction, where those before it are accepted
   pub unknown_among : (us : List (List ℕ)) (w : List ℕ) (vs : List (List ℕ)) (img : Image) (e : ℕ) → NoKind w
-      → judge_ops P S img e (map operation_of us) ≡ Accepted → judge_ops P S img e (map operation_of (us ++ w ∷ vs)) ≡ refuse 7 (e + length us)
+      → judge_ops P S img e (map operation_of us) ≡ allowed → judge_ops P S img e (map operation_of (us ++ w ∷ vs)) ≡ refuse 7 (e + length us)
   unfolding judge_ops and_then
   unknown_among [] w vs img e h j = let z : e + 0 ≡ e = omega arith in rw (unknown_refused img e w h, z)
   unknown_among (u ∷ us) w vs img e h j =

@@ -1,18 +1,16 @@
 -- The calls as C sees them: answers said in numbers (catalogue/specs/Answers.antt), operations and fields as words.
-use Rattle.std.specs.Prelude.{ℕ, cond, List, map, eqb, length, get_or}
+use Rattle.std.specs.Prelude.{ℕ, cond, List, map, eqb, get_or}
 use Rattle.kinds.specs.Names.{named, roots, target_of}
 use Rattle.kinds.specs.declared.Field.{Field}
 use Rattle.kinds.specs.declared.Record.{Record}
 use Rattle.kinds.specs.declared.Outlist.{Outlist}
-use Rattle.kinds.specs.declared.Target.TheVariants.{Nothing, Object}
+use Rattle.std.specs.Prelude.{None, Some}
 use Rattle.kinds.specs.declared.Operation.{Operation}
 use Rattle.kinds.specs.declared.Operation.TheVariants.{New, Set, Val, Root}
-use Rattle.kinds.specs.declared.Verdict.{Verdict}
-use Rattle.kinds.specs.declared.Verdict.TheVariants.{Accepted, Refused}
 use Rattle.model.specs.Image.{Image}
 use Rattle.holding.specs.Finding.{Explained, explained}
 use Rattle.journal.specs.Recover.{Recovered, byte_of}
-use Rattle.catalogue.specs.declared.Answer.{Answer}
+use Rattle.catalogue.specs.Answers.{Answer}
 use Rattle.catalogue.specs.Answers.{Said, said_verdict}
 use Rattle.catalogue.specs.Call.{Outcome, outcome, commit_of}
 
@@ -43,19 +41,14 @@ restored k b y = record { kept = k; byte = b; image = y }
 abbrev pub said_recovered : List ℕ → Recovered → Said Restored
 said_recovered log x = said_verdict x.verdict (restored x.kept (byte_of log x.verdict) x.image)
 
--- the paper's number of a verdict; 0 is accepted
-abbrev pub number_of : Verdict → ℕ
-number_of Accepted = 0
-number_of (Refused r) = r.number
-
 -- an operation by its kind (1 new, 2 set, 3 clr, 4 val, 5 root, 6 unroot) and five numbers; any other kind names a root that there is not
 unfoldable pub operation_by : ℕ → ℕ → ℕ → ℕ → ℕ → ℕ → Operation
 operation_by kind a b c d e =
     cond (eqb kind 1) (New (named a b) c)
-    (cond (eqb kind 2) (Set (named a b) c (Object (named d e)))
-    (cond (eqb kind 3) (Set (named a b) c Nothing)
+    (cond (eqb kind 2) (Set (named a b) c (Some (named d e)))
+    (cond (eqb kind 3) (Set (named a b) c None)
     (cond (eqb kind 4) (Val (named a b) c)
-    (cond (eqb kind 5) (Root a (Object (named b c))) (cond (eqb kind 6) (Root a Nothing) (Root roots Nothing))))))
+    (cond (eqb kind 5) (Root a (Some (named b c))) (cond (eqb kind 6) (Root a None) (Root roots None))))))
 
 -- the operation that six words are
 unfoldable pub operation_of : List ℕ → Operation
@@ -63,7 +56,7 @@ operation_of w = operation_by (get_or w 0 0) (get_or w 1 0) (get_or w 2 0) (get_
 
 -- the commit of the operations that the words are
 abbrev pub commit_by : Image → List (List ℕ) → List ℕ → ℕ → Outcome Answer
-commit_by img ws log at = commit_of img (map operation_of ws) (length ws) log at
+commit_by img ws log at = commit_of img (map operation_of ws) log at
 
 -- the field that a word is
 abbrev pub field_of : ℕ → Field

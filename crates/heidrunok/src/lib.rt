@@ -6,46 +6,33 @@
 // proofs/Unknown.antt, and that no second outcome meets a contract in proofs/Unique.antt.
 #![tactic(auto)]
 
-ghost use Rattle.std.specs.Prelude.{◌≡◌, ◌≤◌, length};
-ghost use Rattle.kinds.specs.Names.{most_operations, partition, named, session, word_of, Named};
-ghost use Rattle.catalogue.specs.Answers.{totals, yield, said, said_closing, said_freeing, said_reading, said_asked, said_listing, chained, said_reason};
+ghost use Rattle.std.specs.Prelude.{◌≡◌, ℕ, length, min};
+ghost use Rattle.kinds.specs.Names.{partition, named, session, word_of, Named};
+ghost use Rattle.catalogue.specs.Answers.{totals, yield, said, said_closing, said_freeing, said_reading, said_asked, said_listing, chained, chained_from, said_reason};
 ghost use Rattle.catalogue.specs.Call.{outcome, format_of, open_of, trace_of, close_of, local_of, hold_of, drop_of, reading_of, asked_of, listing_of, why_of};
 ghost use Rattle.holding.specs.Finding.{explained};
 ghost use Rattle.journal.specs.Recover.{recover_of};
-ghost use Rattle.heidrunok.specs.Face.{told, seen, seen_words, number_of, restored, said_recovered, operation_of, commit_by, record_of, outlist_of};
+ghost use Rattle.heidrunok.specs.Face.{told, seen, seen_words, restored, said_recovered, operation_of, commit_by, record_of, outlist_of};
 
-use catalogue::{Answer, Asked, Closing, Freeing};
-use kinds::{
-    Field, Handle, Name, Operation, Outlist, Partition, Reason, Slot, Start, Target, Verdict,
-};
-use recovery::Recovery;
+use kinds::{Field, Handle, Operation, Outlist, Partition, Refusal, Slot, Start, named};
 
 // How many words an operation takes: its kind, and up to five numbers.
 const WORDS: usize = 6;
 
-fn name(p: u32, s: u32) -> Name
-    ensures { result ≡ named p s }
-{
-    Name {
-        partition: Partition(p),
-        slot: Slot(s),
-    }
-}
-
 // An answer said in numbers: the paper's, the length and the extra answer.
-fn tell(a: Answer, length: &mut usize, extra: &mut usize) -> u32
+fn tell(a: Result<usize, Refusal>, length: &mut usize, extra: &mut usize) -> u32
     ensures { told result extra.new length.new ≡ said a }
 {
     match a {
-        Answer::Done(n) => {
+        Ok(n) => {
             *length = n;
             *extra = 0;
-            return 0;
+            0
         }
-        Answer::Refused(r) => {
+        Err(r) => {
             *length = 0;
             *extra = r.extra;
-            return r.number;
+            r.number
         }
     }
 }
@@ -65,29 +52,30 @@ pub extern "C" fn heidrunok_format(
     tell(catalogue::format(img, p, s, log, at), length, extra)
 }
 
-// The operation of a kind and its numbers, in the order of the log's line. There is no root 16: any other kind, 0 among them, is refused with 7.
+// The operation of a kind and its numbers, in the order of the log's line. There is no root 16: any other kind, 0 among them, is refused with 7. (C says
+// the kind as a number.)
 fn operation(w: [u32; WORDS]) -> Operation
     ensures { result ≡ operation_of w }
 {
     match w[0] {
-        1 => Operation::New(name(w[1], w[2]), w[3]),
-        2 => Operation::Set(name(w[1], w[2]), w[3], Target::Object(name(w[4], w[5]))),
-        3 => Operation::Set(name(w[1], w[2]), w[3], Target::Nothing),
-        4 => Operation::Val(name(w[1], w[2]), w[3]),
-        5 => Operation::Root(w[1], Target::Object(name(w[2], w[3]))),
-        6 => Operation::Root(w[1], Target::Nothing),
-        _ => Operation::Root(Target::ROOTS, Target::Nothing),
+        1 => Operation::New(named(w[1], w[2]), w[3]),
+        2 => Operation::Set(named(w[1], w[2]), w[3], Some(named(w[4], w[5]))),
+        3 => Operation::Set(named(w[1], w[2]), w[3], None),
+        4 => Operation::Val(named(w[1], w[2]), w[3]),
+        5 => Operation::Root(w[1], Some(named(w[2], w[3]))),
+        6 => Operation::Root(w[1], None),
+        _ => Operation::Root(kinds::ROOTS, None),
     }
 }
 
-// How many of n operations are looked at: a commit of more is refused whatever they are.
+// More operations than a commit may have: of more than these, no more are looked at.
+const MANY: usize = 33;
+
+// How many of n operations are looked at.
 fn looked_at(n: usize) -> usize
-    ensures { (result ≤ n) × (result ≤ most_operations) × (n ≤ most_operations → result ≡ n) }
+    ensures { result ≡ min n 33 }
 {
-    if n < Operation::LIMIT {
-        return n;
-    }
-    Operation::LIMIT
+    n.min(MANY)
 }
 
 #[unsafe(no_mangle)]
@@ -101,15 +89,12 @@ pub extern "C" fn heidrunok_commit(
 ) -> u32
     ensures { outcome (told result extra.new length.new) img.new log.new ≡ seen said (commit_by img.old words.now log.old at) }
 {
-    let n = words.len();
-    let most = looked_at(n);
-    let mut ops = [Operation::Root(Target::ROOTS, Target::Nothing); Operation::LIMIT];
-    let mut i: usize = 0;
-    while i < most {
-        ops[i] = operation(words[i]);
-        i += 1;
+    let mut ops = [Operation::Root(kinds::ROOTS, None); MANY];
+    let n = looked_at(words.len());
+    for (i, w) in words[..n].iter().enumerate() {
+        ops[i] = operation(*w);
     }
-    tell(catalogue::commit(img, ops, n, log, at), length, extra)
+    tell(catalogue::commit(img, &ops[..n], log, at), length, extra)
 }
 
 #[unsafe(no_mangle)]
@@ -153,15 +138,15 @@ pub extern "C" fn heidrunok_close(
     ensures { outcome (told result extra.new (totals length.new count.new freed.new)) img.new log.new ≡ seen said_closing (close_of img.old log.old at) }
 {
     match catalogue::close(img, log, at) {
-        Closing::Closed(n, c, f) => {
-            *count = c;
-            *freed = f;
-            return tell(Answer::Done(n), length, extra);
+        Ok(c) => {
+            *count = c.count;
+            *freed = c.freed;
+            tell(Ok(c.length), length, extra)
         }
-        Closing::Refused(r) => {
+        Err(r) => {
             *count = 0;
             *freed = 0;
-            return tell(Answer::Refused(r), length, extra);
+            tell(Err(r), length, extra)
         }
     }
 }
@@ -180,13 +165,13 @@ pub extern "C" fn heidrunok_local(
     ensures { outcome (told result extra.new (yield length.new freed.new)) img.new log.new ≡ seen said_freeing (local_of img.old (partition t) log.old at) }
 {
     match catalogue::local(img, Partition(t), log, at) {
-        Freeing::Freed(n, k) => {
-            *freed = k;
-            return tell(Answer::Done(n), length, extra);
+        Ok(f) => {
+            *freed = f.freed;
+            tell(Ok(f.length), length, extra)
         }
-        Freeing::Refused(r) => {
+        Err(r) => {
             *freed = 0;
-            return tell(Answer::Refused(r), length, extra);
+            tell(Err(r), length, extra)
         }
     }
 }
@@ -205,7 +190,7 @@ pub extern "C" fn heidrunok_hold(
     ensures { outcome (told result extra.new length.new) img.new log.new ≡ seen said (hold_of img.old (session h) (named p s) log.old at) }
 {
     tell(
-        catalogue::hold(img, Handle(h), name(p, s), log, at),
+        catalogue::hold(img, Handle(h), named(p, s), log, at),
         length,
         extra,
     )
@@ -237,23 +222,14 @@ pub extern "C" fn heidrunok_recover(
     ensures { told result line.new (restored kept.new byte.new img.new) ≡ said_recovered log.now (recover_of log.now (length img.old)) }
 {
     match recovery::recover(img, log) {
-        Recovery::Kept(n) => {
+        Ok(n) => {
             *byte = 0;
-            return tell(Answer::Done(n), kept, line);
+            tell(Ok(n), kept, line)
         }
-        Recovery::Refused(r, b) => {
-            *byte = b;
-            return tell(Answer::Refused(r), kept, line);
+        Err(f) => {
+            *byte = f.byte;
+            tell(Err(f.refusal), kept, line)
         }
-    }
-}
-
-fn number(v: Verdict) -> u32
-    ensures { result ≡ number_of v }
-{
-    match v {
-        Verdict::Accepted => 0,
-        Verdict::Refused(r) => r.number,
     }
 }
 
@@ -277,35 +253,37 @@ pub extern "C" fn heidrunok_read(
 ) -> u32
     ensures { told result 0 (record_of payload.new fields.new) ≡ said_reading (reading_of img.now (named p s)) }
 {
-    let x = catalogue::read(img, name(p, s));
-    let o = x.object;
-    *payload = o.payload;
-    *fields = [
-        word(o.fields[0]),
-        word(o.fields[1]),
-        word(o.fields[2]),
-        word(o.fields[3]),
-    ];
-    let v = x.verdict;
-    number(v)
+    match catalogue::read(img, named(p, s)) {
+        Ok(o) => {
+            *payload = o.payload;
+            *fields = [
+                word(o.fields[0]),
+                word(o.fields[1]),
+                word(o.fields[2]),
+                word(o.fields[3]),
+            ];
+            0
+        }
+        Err(r) => {
+            *payload = 0;
+            *fields = [0; 4];
+            r.number
+        }
+    }
 }
 
 #[unsafe(no_mangle)]
 pub extern "C" fn heidrunok_ask(img: &[u32], p: u32, s: u32, yes: &mut bool) -> u32
     ensures { told result 0 yes.new ≡ said_asked (asked_of img.now (named p s)) }
 {
-    match catalogue::ask(img, name(p, s)) {
-        Asked::Yes => {
-            *yes = true;
-            return 0;
+    match catalogue::ask(img, named(p, s)) {
+        Ok(led) => {
+            *yes = led;
+            0
         }
-        Asked::No => {
+        Err(r) => {
             *yes = false;
-            return 0;
-        }
-        Asked::Refused(r) => {
-            *yes = false;
-            return r.number;
+            r.number
         }
     }
 }
@@ -320,13 +298,29 @@ pub extern "C" fn heidrunok_outlist(
 ) -> u32
     ensures { told result 0 (outlist_of held.new names.new) ≡ said_listing (listing_of img.now (partition t)) }
 {
-    let x = catalogue::outlist(img, Partition(t));
-    let o = x.outlist;
-    *held = o.number;
-    let words = o.names;
-    *names = words;
-    let v = x.verdict;
-    number(v)
+    match catalogue::outlist(img, Partition(t)) {
+        Ok(o) => {
+            *held = o.number;
+            let words = o.names;
+            *names = words;
+            0
+        }
+        Err(r) => {
+            *held = 0;
+            *names = [0; Outlist::LIMIT];
+            r.number
+        }
+    }
+}
+
+// Whether a start is a handle, and its number.
+fn numbered(x: Start) -> (bool, u32)
+    ensures { (k : ℕ) → chained result.0 result.1 k ≡ chained_from x k }
+{
+    match x {
+        Start::Root(r) => (false, r),
+        Start::Handle(h) => (true, h.0),
+    }
 }
 
 // Whether the chain starts from a handle, else from a root; the number of that; and the number of references. The chain is put into the lent
@@ -343,27 +337,17 @@ pub extern "C" fn heidrunok_why(
 ) -> u32
     ensures { explained (told result 0 (chained handle.new start.new references.new)) words.new ≡ seen_words said_reason (why_of img.now (named p s) words.old) }
 {
-    match catalogue::why(img, name(p, s), words) {
-        Reason::Held(x, k) => {
-            *references = k;
-            match x {
-                Start::Root(r) => {
-                    *handle = false;
-                    *start = r;
-                    return 0;
-                }
-                Start::Handle(h) => {
-                    *handle = true;
-                    *start = h.0;
-                    return 0;
-                }
-            }
+    match catalogue::why(img, named(p, s), words) {
+        Ok(h) => {
+            *references = h.references;
+            (*handle, *start) = numbered(h.start);
+            0
         }
-        Reason::Refused(r) => {
+        Err(r) => {
             *handle = false;
             *start = 0;
             *references = 0;
-            return r.number;
+            r.number
         }
     }
 }

@@ -11,8 +11,8 @@ use Rattle.loops.specs.Cases.{case, Agree}
 use Rattle.loops.specs.Loop.{first}
 use Rattle.kinds.specs.Names.{session}
 use Rattle.kinds.specs.declared.Start.TheVariants.{Root, Handle}
-use Rattle.kinds.specs.declared.Reason.{Reason}
-use Rattle.kinds.specs.declared.Reason.TheVariants.{Held}
+use Rattle.kinds.specs.Answers.{Reason}
+use Rattle.kinds.specs.Answers.{held_from}
 use Rattle.model.specs.Image.{Image, addr, get, place_of}
 use Rattle.model.specs.Outlist.{name_at}
 use Rattle.holding.specs.Holding.{Chain}
@@ -36,10 +36,10 @@ told t words = held_of 8 8 heap t words
 -- names before fields and start, then the lowest field, then a root before a handle; later words stay; 18 and 19 leave all of them
 answers :
     Agree
-    (case (told 2 (9 ∷ 9 ∷ 9 ∷ 9 ∷ [])) (explained (Held (Root 5) 1) (1 ∷ 2 ∷ 3 ∷ 9 ∷ [])) ∷
-    case (told 5 (9 ∷ 9 ∷ 9 ∷ 9 ∷ 9 ∷ 9 ∷ [])) (explained (Held (Root 5) 2) (1 ∷ 1 ∷ 4 ∷ 2 ∷ 6 ∷ 9 ∷ [])) ∷
-    case (told 0 (9 ∷ 9 ∷ [])) (explained (Held (Root 5) 0) (1 ∷ 9 ∷ [])) ∷
-    case (told 6 (9 ∷ [])) (explained (Held (Handle (session 3)) 0) (7 ∷ [])) ∷
+    (case (told 2 (9 ∷ 9 ∷ 9 ∷ 9 ∷ [])) (explained (held_from (Root 5) 1) (1 ∷ 2 ∷ 3 ∷ 9 ∷ [])) ∷
+    case (told 5 (9 ∷ 9 ∷ 9 ∷ 9 ∷ 9 ∷ 9 ∷ [])) (explained (held_from (Root 5) 2) (1 ∷ 1 ∷ 4 ∷ 2 ∷ 6 ∷ 9 ∷ [])) ∷
+    case (told 0 (9 ∷ 9 ∷ [])) (explained (held_from (Root 5) 0) (1 ∷ 9 ∷ [])) ∷
+    case (told 6 (9 ∷ [])) (explained (held_from (Handle (session 3)) 0) (7 ∷ [])) ∷
     case (told 7 (9 ∷ [])) (denied 18 (9 ∷ [])) ∷
     case (told 2 (9 ∷ 9 ∷ [])) (denied 19 (9 ∷ 9 ∷ [])) ∷
     case (told 7 []) (denied 18 []) ∷
@@ -49,7 +49,7 @@ answers = (refl, (refl, (refl, (refl, (refl, (refl, (refl, tt)))))))
 
 -- a chain that is held, with room for its words
 abbrev pub chain_told : ℕ → Chain → List ℕ → Explained Reason
-chain_told S c words = explained (Held (start_of c.start) (length c.fields)) (words_of S c ++ drop (2 * length c.fields + 1) words)
+chain_told S c words = explained (held_from (start_of c.start) (length c.fields)) (words_of S c ++ drop (2 * length c.fields + 1) words)
 
 pub by_cases : (S : ℕ) (c : Chain) (words : List ℕ) (Q : Explained Reason → Type 0) → (length words < 2 * length c.fields + 1 → Q (denied 19 words))
     → (2 * length c.fields + 1 ≤ length words → Q (chain_told S c words)) → Q (held_by S c words)

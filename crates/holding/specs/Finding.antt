@@ -4,8 +4,9 @@ use Rattle.loops.specs.Loop.{both, first}
 use Rattle.kinds.specs.Names.{roots, session}
 use Rattle.kinds.specs.declared.Start.{Start}
 use Rattle.kinds.specs.declared.Start.TheVariants.{Root, Handle}
-use Rattle.kinds.specs.declared.Reason.{Reason}
-use Rattle.kinds.specs.declared.Reason.TheVariants.{Held, Refused}
+use Rattle.kinds.specs.Answers.{Reason}
+use Rattle.kinds.specs.Answers.{held_from}
+use Rattle.std.specs.Prelude.{Err}
 use Rattle.model.specs.Image.{Image, Key, anchor, field, anchors}
 use Rattle.model.specs.Questions.{held, held_at}
 use Rattle.model.specs.Outlist.{name_at}
@@ -89,7 +90,7 @@ explained a words = record { answer = a; words = words }
 
 -- refused: the words stay
 abbrev pub refused_with : ℕ → Reason
-refused_with n = Refused (record { number = n; extra = 0 })
+refused_with n = Err (record { number = n; extra = 0 })
 
 abbrev pub denied : ℕ → List ℕ → Explained Reason
 denied n words = explained (refused_with n) words
@@ -98,7 +99,7 @@ denied n words = explained (refused_with n) words
 unfoldable pub held_by : ℕ → Chain → List ℕ → Explained Reason
 held_by S c words =
     cond (leb (2 * length c.fields + 1) (length words))
-    (explained (Held (start_of c.start) (length c.fields)) (words_of S c ++ drop (2 * length c.fields + 1) words))
+    (explained (held_from (start_of c.start) (length c.fields)) (words_of S c ++ drop (2 * length c.fields + 1) words))
     (denied 19 words)
 
 -- the object at t of n places: 18 where no chain is, else its foremost chain

@@ -11,22 +11,22 @@ use Rattle.loops.proofs.Tests.{is_false, both_true}
 use Rattle.loops.specs.Loop.{both}
 use Rattle.kinds.proofs.Answers.{unlike}
 use Rattle.kinds.specs.Answers.{refuse}
-use Rattle.kinds.specs.declared.Verdict.TheVariants.{Accepted}
+use Rattle.kinds.specs.Answers.{allowed}
 use Rattle.model.proofs.Soundness.{limits_true, limits_back}
 use Rattle.model.specs.Image.{Image, front, stride, length_of, size, blank}
 use Rattle.model.specs.Judge.{check, in_limits, judge_format}
 use Rattle.model.specs.Sound.{Limits}
 
 module _ (p s len : ℕ) where
-  pub format_so : Limits p s → len ≡ size p s → Accepted ≡ judge_format p s len
+  pub format_so : Limits p s → len ≡ size p s → allowed ≡ judge_format p s len
   unfolding judge_format check
   format_so l e = rw (limits_back p s l, eq-eqb len (size p s) e)
 
-  pub format_true : judge_format p s len ≡ Accepted → Limits p s × (len ≡ size p s)
+  pub format_true : judge_format p s len ≡ allowed → Limits p s × (len ≡ size p s)
   unfolding judge_format check
   format_true a = go (both (in_limits p s) (eqb len (size p s))) refl a
     where
-      go : (b : Bool) → both (in_limits p s) (eqb len (size p s)) ≡ b → check b 2 0 Accepted ≡ Accepted → Limits p s × (len ≡ size p s)
+      go : (b : Bool) → both (in_limits p s) (eqb len (size p s)) ≡ b → check b 2 0 allowed ≡ allowed → Limits p s × (len ≡ size p s)
       go true e q = let b = both_true (in_limits p s) (eqb len (size p s)) e in (limits_true p s b.0, eqb-true len (size p s) b.1)
       go false e q = unlike q
 

@@ -10,7 +10,7 @@ ghost use Rattle.model.specs.Image.{head, anchor, flag, state, payload, inlist, 
 ghost use Rattle.model.specs.Judge.{in_limits, judge_format};
 ghost use Rattle.model.specs.Acts.{mark_word};
 ghost use Rattle.model.specs.Sound.{Limits};
-ghost use Rattle.image.specs.Within.{Within, count_at, Loses, Gains};
+ghost use Rattle.image.specs.Within.{Within, count_at, Changes, Changed, Loses, Gains};
 
 // The words before the slots, and the words of a slot.
 const FRONT: usize = 69;
@@ -24,7 +24,7 @@ const INLIST: usize = 6;
 pub const WORDS: usize = FRONT + STRIDE * kinds::Name::LIMIT;
 
 // What holds a reference and is no field: the roots, then the session handles.
-const ROOTS: usize = kinds::Target::ROOTS as usize;
+const ROOTS: usize = kinds::ROOTS as usize;
 
 pub const ANCHORS: usize = ROOTS + kinds::Handle::LIMIT as usize;
 
@@ -46,7 +46,7 @@ pub const COUNT: usize = 3;
 
 pub const ALLOWANCE: usize = 4;
 
-// A word as a place: an element of an array is not cast where it stands.
+// A word as a place.
 pub fn wide(x: u32) -> usize
     ensures { result ≡ x }
 {
@@ -54,6 +54,7 @@ pub fn wide(x: u32) -> usize
 }
 
 // A word of the head.
+#[tactic(auto, unfolding(model::specs::Image::addr, model::specs::Image::Has, model::specs::Image::get))]
 pub fn head_at(img: &[u32], h: usize) -> u32
     requires { Has img.now (head h) }
     ensures { result ≡ get img.now (head h) }
@@ -89,6 +90,7 @@ pub fn anchor_at(img: &[u32], a: usize) -> u32
 }
 
 // A partition's flag.
+#[tactic(auto, unfolding(model::specs::Image::addr, model::specs::Image::Has, model::specs::Image::get))]
 pub fn flag_at(img: &[u32], p: usize) -> u32
     requires { Has img.now (flag p) }
     ensures { result ≡ get img.now (flag p) }
@@ -97,6 +99,7 @@ pub fn flag_at(img: &[u32], p: usize) -> u32
 }
 
 // The state of place j.
+#[tactic(auto, unfolding(model::specs::Image::addr, model::specs::Image::Has, model::specs::Image::get))]
 pub fn state_at(img: &[u32], j: usize) -> u32
     requires { Has img.now (state j) }
     ensures { result ≡ get img.now (state j) }
@@ -105,6 +108,7 @@ pub fn state_at(img: &[u32], j: usize) -> u32
 }
 
 // Its payload.
+#[tactic(auto, unfolding(model::specs::Image::addr, model::specs::Image::Has, model::specs::Image::get))]
 pub fn payload_at(img: &[u32], j: usize) -> u32
     requires { Has img.now (payload j) }
     ensures { result ≡ get img.now (payload j) }
@@ -113,6 +117,7 @@ pub fn payload_at(img: &[u32], j: usize) -> u32
 }
 
 // Its field k.
+#[tactic(auto, unfolding(model::specs::Image::addr, model::specs::Image::Has, model::specs::Image::get))]
 pub fn field_at(img: &[u32], j: usize, k: usize) -> u32
     requires { Has img.now (field j k) }
     ensures { result ≡ get img.now (field j k) }
@@ -121,6 +126,7 @@ pub fn field_at(img: &[u32], j: usize, k: usize) -> u32
 }
 
 // Its count of foreign references.
+#[tactic(auto, unfolding(model::specs::Image::addr, model::specs::Image::Has, model::specs::Image::get))]
 pub fn inlist_at(img: &[u32], j: usize) -> u32
     requires { Has img.now (inlist j) }
     ensures { result ≡ get img.now (inlist j) }
@@ -129,6 +135,7 @@ pub fn inlist_at(img: &[u32], j: usize) -> u32
 }
 
 // A word of the head is written.
+#[tactic(auto, unfolding(model::specs::Image::addr, model::specs::Image::Has, model::specs::Image::put))]
 pub fn put_head(img: &mut [u32], h: usize, v: u32)
     requires { Has img.old (head h) }
     ensures { img.new ≡ put img.old (head h) v }
@@ -137,6 +144,7 @@ pub fn put_head(img: &mut [u32], h: usize, v: u32)
 }
 
 // A partition's flag.
+#[tactic(auto, unfolding(model::specs::Image::addr, model::specs::Image::Has, model::specs::Image::put))]
 pub fn put_flag(img: &mut [u32], p: usize, v: u32)
     requires { Has img.old (flag p) }
     ensures { img.new ≡ put img.old (flag p) v }
@@ -145,6 +153,7 @@ pub fn put_flag(img: &mut [u32], p: usize, v: u32)
 }
 
 // The state of place j.
+#[tactic(auto, unfolding(model::specs::Image::addr, model::specs::Image::Has, model::specs::Image::put))]
 pub fn put_state(img: &mut [u32], j: usize, v: u32)
     requires { Has img.old (state j) }
     ensures { img.new ≡ put img.old (state j) v }
@@ -153,6 +162,7 @@ pub fn put_state(img: &mut [u32], j: usize, v: u32)
 }
 
 // Its payload.
+#[tactic(auto, unfolding(model::specs::Image::addr, model::specs::Image::Has, model::specs::Image::put))]
 pub fn put_payload(img: &mut [u32], j: usize, v: u32)
     requires { Has img.old (payload j) }
     ensures { img.new ≡ put img.old (payload j) v }
@@ -161,6 +171,7 @@ pub fn put_payload(img: &mut [u32], j: usize, v: u32)
 }
 
 // Its field k: only where a reference changes, with the counts.
+#[tactic(auto, unfolding(model::specs::Image::addr, model::specs::Image::Has, model::specs::Image::put))]
 fn put_field(img: &mut [u32], j: usize, k: usize, v: u32)
     requires { Has img.old (field j k) }
     ensures { img.new ≡ put img.old (field j k) v }
@@ -169,13 +180,11 @@ fn put_field(img: &mut [u32], j: usize, k: usize, v: u32)
 }
 
 // Whether the words before the slots are all there.
+#[tactic(auto, unfolding(model::specs::Image::length_of))]
 pub fn has_front(img: &[u32]) -> bool
     ensures { result ≡ leb front (length_of img.now) }
 {
-    if img.len() < FRONT {
-        return false;
-    }
-    true
+    FRONT <= img.len()
 }
 
 // The place of a name that is known to have one, whatever its numbers are.
@@ -195,8 +204,8 @@ pub fn place_of(w: u32, s: usize) -> usize
         return 0;
     }
     let k = w - 1;
-    let p = k / kinds::Target::RADIX;
-    let t = k % kinds::Target::RADIX;
+    let p = k / kinds::Name::RADIX;
+    let t = k % kinds::Name::RADIX;
     p as usize * s + t as usize
 }
 
@@ -210,9 +219,9 @@ pub fn part_of(w: u32, s: usize) -> usize
         return 0;
     }
     let k = w - 1;
-    let t = (k % kinds::Target::RADIX) as usize;
+    let t = (k % kinds::Name::RADIX) as usize;
     if t < s {
-        return (k / kinds::Target::RADIX) as usize;
+        return (k / kinds::Name::RADIX) as usize;
     }
     let j = place_of(w, s);
     j / s
@@ -245,25 +254,31 @@ pub fn refer_anchor(img: &mut [u32], s: usize, a: usize, w: u32)
     img[at] = w;
 }
 
-// Where the count stands of what a word in a field of the object at j names, if that is in another partition; else 0, where no count stands.
-fn count_at(s: usize, j: usize, w: u32) -> usize
+// Where the count stands of what a word in a field of the object at j names, if that is in another partition.
+fn count_at(s: usize, j: usize, w: u32) -> Option<usize>
     requires { (0 < s) × (s ≤ most_slots) }
     ensures { result ≡ count_at s j w }
 {
     if w == 0 {
-        return 0;
+        return None;
     }
     let t = place_of(w, s);
     let q = part_of(w, s);
-    let at = FRONT + STRIDE * t + INLIST;
     let lo = q * s;
-    if j < lo {
-        return at;
+    if (lo..lo + s).contains(&j) {
+        return None;
     }
-    if lo + s <= j {
-        return at;
+    Some(FRONT + STRIDE * t + INLIST)
+}
+
+// That count changes.
+fn recount<F: FnOnce(u32) -> u32>(img: &mut [u32], s: usize, j: usize, w: u32, change: F)
+    requires { Changes (F.pre change) s j w img.old }
+    ensures { Changed (F.post change) s j w img.old img.new }
+{
+    if let Some(at) = count_at(s, j, w) {
+        img[at] = change(img[at]);
     }
-    0
 }
 
 // A field of the object at j loses a word: what it names in another partition is counted once less.
@@ -271,11 +286,7 @@ fn lose(img: &mut [u32], s: usize, j: usize, w: u32)
     requires { Loses s j w img.old }
     ensures { img.new ≡ lose s j w img.old }
 {
-    let at = count_at(s, j, w);
-    if at == 0 {
-        return;
-    }
-    img[at] = img[at] - 1;
+    recount(img, s, j, w, |c| c - 1);
 }
 
 // It gains a word: what it names there is counted once more.
@@ -283,11 +294,7 @@ fn gain(img: &mut [u32], s: usize, j: usize, w: u32)
     requires { Gains s j w img.old }
     ensures { img.new ≡ gain s j w img.old }
 {
-    let at = count_at(s, j, w);
-    if at == 0 {
-        return;
-    }
-    img[at] = img[at] + 1;
+    recount(img, s, j, w, |c| c + 1);
 }
 
 // A field takes a reference: the count of what it named falls, then that of what it names rises.
@@ -308,9 +315,7 @@ pub fn release_field(img: &mut [u32], p: usize, s: usize, j: usize, k: usize)
     requires j_bound { (j < p * s) × (k < 4) }
     ensures { img.new ≡ release s img.old (field j k) }
 {
-    let old = field_at(&*img, j, k);
-    lose(&mut *img, s, j, old);
-    put_field(img, j, k, 0);
+    refer_field(img, p, s, j, k, 0);
 }
 
 // As many zeros as there can be places.
@@ -324,33 +329,18 @@ pub fn zeros() -> [u32; kinds::Name::LIMIT]
 pub fn clear(img: &mut [u32])
     ensures { img.new ≡ replicate (length img.old) 0 }
 {
-    let mut i: usize = 0;
-    while i < img.len() {
-        img[i] = 0;
-        i += 1;
-    }
+    img.fill(0);
 }
 
 // P is 1 to 16, S is 1 to 128.
 pub fn in_limits(p: u32, s: u32) -> bool
     ensures { result ≡ in_limits p s }
 {
-    if p == 0 {
-        return false;
-    }
-    if p > kinds::Partition::LIMIT {
-        return false;
-    }
-    if s == 0 {
-        return false;
-    }
-    if s > kinds::Slot::LIMIT {
-        return false;
-    }
-    true
+    (1..=kinds::Partition::LIMIT).contains(&p) && (1..=kinds::Slot::LIMIT).contains(&s)
 }
 
 // The words of an image of P partitions of S slots.
+#[tactic(auto, unfolding(model::specs::Image::size))]
 pub fn size(p: u32, s: u32) -> usize
     requires { Limits p s }
     ensures { result ≡ size p s }
@@ -363,12 +353,12 @@ pub fn judge_format(len: usize, p: u32, s: u32) -> kinds::Verdict
     ensures { result ≡ judge_format p s len }
 {
     if !in_limits(p, s) {
-        return kinds::Verdict::refuse(kinds::Refusal::SIZE, 0);
+        return kinds::refuse(kinds::Refusal::SIZE, 0);
     }
     if len != size(p, s) {
-        return kinds::Verdict::refuse(kinds::Refusal::SIZE, 0);
+        return kinds::refuse(kinds::Refusal::SIZE, 0);
     }
-    kinds::Verdict::Accepted
+    Ok(())
 }
 
 // The act format: P, S, phase shut, nothing else set.

@@ -1,55 +1,49 @@
--- What the answers of `read` make of a reading.
-use Rattle.std.specs.Prelude.{ℕ, ◌+◌, ◌≤◌, ◌<◌, ◌≡◌, cond, List, [], ◌∷◌, eqb, ℤ, pos, negsuc, Result, Ok, Err}
+-- What the answers of `read` make of a reading. An error is of any type E.
+use Rattle.std.specs.Prelude.{ℕ, ◌+◌, ◌-◌, ◌≤◌, ◌<◌, cond, List, [], ◌∷◌, eqb, length, take, drop, Option, Some, None, Result, Ok, Err}
 use Rattle.std.specs.Counts.{IsPrefixLen}
-use Rattle.input.specs.declared.Got.{Got}
-use Rattle.input.specs.declared.Got.TheVariants.{More, Ended, Failed}
-use Rattle.input.specs.declared.Input.{Input}
-use Rattle.input.specs.declared.Input.TheVariants.{Whole, Failed as NoInput}
+use Rattle.std.specs.Io.KnownBytes.{Keeps, Consumes, IsAtEnd}
 
--- an answer of std's `read` as C's: how many bytes it moved, or -1
-abbrev pub answer_of : {E : Type 0} → Result ℕ E → ℤ
-answer_of (Ok k) = pos k
-answer_of (Err e) = negsuc 0
+module _ {E : Type 0} where
+  -- what an answer makes of `done` bytes read so far: an error is a failed read, 0 the end of the input, and else so many bytes stand there
+  abbrev pub after_of : ℕ → Result ℕ E → Result (Option ℕ) E
+  after_of done (Ok k) = Ok (cond (eqb k 0) None (Some (done + k)))
+  after_of done (Err e) = Err e
 
--- what a call that is handed n bytes may answer: -1, or how many bytes it moved, at most n
-abbrev pub Moved : ℕ → ℤ → Type 0
-Moved n (pos k) = k ≤ n
-Moved n (negsuc k) = k ≡ 0
+  -- what a reading of `done` bytes comes to by it: it goes on from more bytes, or the input has ended, or it has failed
+  abbrev pub next_of : ℕ → Result (Option ℕ) E → (ℕ → Result ℕ E) → Result ℕ E
+  next_of done (Ok (Some n)) on = on n
+  next_of done (Ok None) on = Ok done
+  next_of done (Err e) on = Err e
 
--- what an answer makes of `done` bytes read so far: a negative one is a failed read, 0 the end of the input
-unfoldable pub after_of : ℕ → ℤ → Got
-after_of done (pos k) = cond (eqb k 0) (Ended done) (More (done + k))
-after_of done (negsuc k) = Failed
+  -- what a reading of `done` bytes comes to by these answers
+  unfoldable pub input_of : ℕ → List (Result ℕ E) → Result ℕ E
+  input_of done [] = Ok done
+  input_of done (answer ∷ rest) = next_of done (after_of done answer) (λ n. input_of n rest)
 
--- what a reading that stops has come to
-unfoldable pub outcome : Got → Input
-outcome (More n) = Whole n
-outcome (Ended n) = Whole n
-outcome Failed = NoInput
+  -- answers that moved a byte or more each, so many in all
+  pub data Moves : List (Result ℕ E) → ℕ → Type 0 where
+    start : Moves [] 0
+    more_moved : {answers : List (Result ℕ E)} {n k : ℕ} → 0 < k → Moves answers n → Moves (Ok k ∷ answers) (k + n)
 
--- one answer more; after the end or a failed read it makes no difference
-abbrev next_of : Got → ℤ → Got
-next_of (More n) answer = after_of n answer
-next_of (Ended n) answer = Ended n
-next_of Failed answer = Failed
+  -- what stands after one read, `done` bytes of `most` being there before
+  abbrev pub Stands : ℕ → ℕ → Result (Option ℕ) E → Type 0
+  Stands done most (Ok (Some n)) = (done < n) × (n ≤ most)
+  Stands done most (Ok None) = Unit {0}
+  Stands done most (Err e) = Unit {0}
 
--- what a reading comes to by these answers
-unfoldable pub input_of : Got → List ℤ → Input
-input_of got [] = outcome got
-input_of got (answer ∷ rest) = input_of (next_of got answer) rest
+  -- what one read takes of the bytes that are known to come: those that stand behind the first `done` now. It ends only where none is to come or no
+  -- room is left, and a failed read takes none.
+  abbrev pub Takes : Option (List ℕ) → Option (List ℕ) → ℕ → Result (Option ℕ) E → List ℕ → Type 0
+  Takes old new done (Ok (Some n)) bytes = Consumes old new (take (n - done) (drop done bytes))
+  Takes old new done (Ok None) bytes = Keeps old new × (done < length bytes → IsAtEnd new)
+  Takes old new done (Err e) bytes = Keeps old new
 
--- answers that moved a byte or more each, so many in all
-pub data Moves : List ℤ → ℕ → Type 0 where
-  start : Moves [] 0
-  more_moved : {answers : List ℤ} {n k : ℕ} → 0 < k → Moves answers n → Moves (pos k ∷ answers) (k + n)
+  -- the bytes that a whole reading counts stand at the start of the buffer
+  abbrev pub Filled : Result ℕ E → List ℕ → Type 0
+  Filled (Ok n) bytes = IsPrefixLen n bytes
+  Filled (Err e) bytes = Unit {0}
 
--- what stands after one read, `done` bytes of `most` being there before
-abbrev pub Stands : ℕ → ℕ → Got → Type 0
-Stands done most (More n) = (done < n) × (n ≤ most)
-Stands done most (Ended n) = n ≡ done
-Stands done most Failed = Unit {0}
-
--- the bytes that a whole reading counts stand at the start of the buffer
-abbrev pub Filled : Input → List ℕ → Type 0
-Filled (Whole n) bytes = IsPrefixLen n bytes
-Filled NoInput bytes = Unit {0}
+  -- and they are all that is known to come, as far as there is room
+  abbrev pub TakesAll : Option (List ℕ) → Option (List ℕ) → Result ℕ E → List ℕ → Type 0
+  TakesAll old new (Ok n) bytes = Consumes old new (take n bytes) × (n < length bytes → IsAtEnd new)
+  TakesAll old new (Err e) bytes = Unit {0}

@@ -1,81 +1,50 @@
 // Reading that tells a failed read from the end of the input, over a reader of std. What an answer of `read` makes of the bytes read so far is
-// specs/Input.antt's `after_of`, and what a reading comes to its `outcome`. A reader's contract knows no history, so of the loop it is proved that
-// it ends and stays within the lent bytes; proofs/Answers.antt has the law over any answers: one that fails before the end makes the whole Failed,
-// and else the bytes are counted.
+// specs/Input.antt's `after_of`; proofs/Answers.antt has the law over any answers: one that fails before the end makes the whole fail by its error, and
+// else the bytes are counted. A reader's contract knows no history, but what it says of the bytes that are known to come holds of the whole reading:
+// where none failed they stand in the lent bytes, as many as there is room for.
 #![tactic(auto)]
 
-mod source;
+mod failure;
 
-ghost use Rattle.std.specs.Prelude.{◌≡◌, ◌-◌, ◌≤◌, length};
-ghost use Rattle.input.specs.Input.{after_of, outcome, answer_of, Moved, Stands, Filled};
+ghost use Rattle.std.specs.Prelude.{◌≡◌, ◌+◌, ◌<◌, ◌^◌, IfOk, length, take};
+ghost use Rattle.input.specs.Input.{after_of, Stands, Takes, Filled, TakesAll};
 
-pub use source::{Source, fail};
+pub use failure::fail;
 use std::io;
 use std::io::Read;
 
-// What stands in the buffer after a read.
-#[derive(Clone, Copy)]
-pub enum Got {
-    // So many bytes, and there may be more.
-    More(usize),
-    // So many bytes, and the input has ended.
-    Ended(usize),
-    Failed,
-}
-
-// What reading to the end, or until the buffer is full, left.
-#[derive(Clone, Copy)]
-pub enum Input {
-    Whole(usize),
-    Failed,
-}
-
-// What an answer of `read` makes of `done` bytes read so far, of the `most` that are lent.
-fn after(done: usize, most: usize, answer: io::Result<usize>) -> Got
-    requires { (done ≤ most) × Moved (most - done) (answer_of answer) }
-    ensures { result ≡ after_of done (answer_of answer) }
+// What an answer of `read` makes of `done` bytes read so far: so many, or the end of the input.
+fn after(done: usize, answer: io::Result<usize>) -> io::Result<Option<usize>>
+    requires { IfOk answer (λ k. done + k < 2 ^ 64) }
+    ensures { result ≡ after_of done answer }
 {
-    let Ok(k) = answer else {
-        return Got::Failed;
-    };
-    if k == 0 {
-        return Got::Ended(done);
-    }
-    Got::More(done + k)
-}
-
-// What a reading that stops here has come to.
-fn outcome(got: Got) -> Input
-    ensures { result ≡ outcome got }
-{
-    match got {
-        Got::More(n) => Input::Whole(n),
-        Got::Ended(n) => Input::Whole(n),
-        Got::Failed => Input::Failed,
+    match answer? {
+        0 => Ok(None),
+        k => Ok(Some(done + k)),
     }
 }
 
-// One read into the buffer after the bytes that stand there. Where no room is left nothing is asked for, and that is Ended.
-pub fn read_more<R: Read>(reader: &mut R, buf: &mut [u8], done: usize) -> Got
-    ensures { Stands done (length buf.new) result }
+// One read into the buffer after the bytes that stand there: how many stand there now, or none where the input has ended. Where no room is left nothing
+// is asked for, and that is the end.
+pub fn read_more<R: Read>(reader: &mut R, buf: &mut [u8], done: usize) -> io::Result<Option<usize>>
+    ensures stands { Stands done (length buf.new) result }
+    ensures kept { take done buf.new ≡ take done buf.old }
+    ensures known { Takes (R.remaining reader.old) (R.remaining reader.new) done result buf.new }
 {
-    let most = buf.len();
-    if done >= most {
-        return Got::Ended(done);
+    if done >= buf.len() {
+        return Ok(None);
     }
-    let answer = reader.read(&mut buf[done..]);
-    after(done, most, answer)
+    after(done, reader.read(&mut buf[done..]))
 }
 
-// Reads to the end of the input, or until the buffer is full.
-pub fn read_all<R: Read>(reader: &mut R, buf: &mut [u8]) -> Input
-    ensures { Filled result buf.new }
+// Reads to the end of the input, or until the buffer is full. (No `for`: where the next read starts is known once this one is answered.)
+pub fn read_all<R: Read>(reader: &mut R, buf: &mut [u8]) -> io::Result<usize>
+    ensures filled { Filled result buf.new }
+    ensures known { TakesAll (R.remaining reader.old) (R.remaining reader.new) result buf.new }
 {
-    let mut got = Got::More(0);
-    loop {
-        let Got::More(done) = got else {
-            return outcome(got);
-        };
-        got = read_more(reader, buf, done);
+    let mut done = 0;
+    while let Some(n) = read_more(reader, buf, done)? {
+        done = n;
     }
+    Ok(done)
 }

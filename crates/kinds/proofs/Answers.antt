@@ -4,7 +4,8 @@ use Prim.Native.Nat.{ℕ}
 use mathlib.Core.Path.{◌≡◌}
 use native.Mathlib.Omega.{arith}
 use Rattle.kinds.specs.declared.Refusal.{Refusal}
-use Rattle.kinds.specs.declared.Verdict.TheVariants.{Accepted, Refused}
+use Rattle.std.specs.Prelude.{Err}
+use Rattle.kinds.specs.Answers.{allowed}
 
-pub unlike : {A : Type 0} {r : Refusal} → Refused r ≡ Accepted → A
+pub unlike : {A : Type 0} {r : Refusal} → Err r ≡ allowed → A
 unlike e = let z : ◌≡◌ {A = ℕ} 0 1 = cc in absurd (omega arith)

@@ -12,13 +12,13 @@ use borrow.Author.Tests.{ne_eqb, eqb-true, eqb-false}
 use Rattle.loops.proofs.Tests.{lt_or_ge}
 use Rattle.kinds.specs.Names.{word_at, target_at, named}
 use Rattle.kinds.specs.declared.Name.{Name}
-use Rattle.kinds.specs.declared.Target.{Target}
-use Rattle.kinds.specs.declared.Target.TheVariants.{Nothing, Object}
+use Rattle.kinds.specs.Names.{Target}
+use Rattle.std.specs.Prelude.{None, Some}
 
 -- a target whose slot is below M
 abbrev pub SlotBelow : ℕ → Target → Type 0
-SlotBelow M Nothing = Unit {0}
-SlotBelow M (Object n) = n.slot.0 < M
+SlotBelow M None = Unit {0}
+SlotBelow M (Some n) = n.slot.0 < M
 
 -- the order of names: partition first, then slot
 pub Before : Name → Name → Type 0
@@ -36,22 +36,22 @@ module _ (M : ℕ) where
   pub word_target : (w : ℕ) → word_at M (target_at M w) ≡ w
   word_target w = go (eqb w 0) refl
     where
-      go : (b : Bool) → eqb w 0 ≡ b → word_at M (cond b Nothing (Object (named ((w - 1) / M) ((w - 1) % M)))) ≡ w
+      go : (b : Bool) → eqb w 0 ≡ b → word_at M (cond b None (Some (named ((w - 1) / M) ((w - 1) % M)))) ≡ w
       go true e = omega (arith, eqb-true w 0 e)
       go false e = let d : w ≢ 0 = eqb-false w 0 e in omega (arith, div-add-mod' (w - 1) M)
 
   pub target_word : (t : Target) → SlotBelow M t → target_at M (word_at M t) ≡ t
-  target_word Nothing h = refl
-  target_word (Object n) h =
+  target_word None h = refl
+  target_word (Some n) h =
       let k : ℕ = n.partition.0 * M + n.slot.0 in
       rw (ne_eqb (k + 1) 0 (omega arith))
-      (ap (λ (j : ℕ). Object (named (j / M) (j % M))) (omega arith) ∙ ap Object (name_number n h))
+      (ap (λ (j : ℕ). Some (named (j / M) (j % M))) (omega arith) ∙ ap Some (name_number n h))
 
-  pub order : (a b : Name) → a.slot.0 < M → Before a b → word_at M (Object a) < word_at M (Object b)
+  pub order : (a b : Name) → a.slot.0 < M → Before a b → word_at M (Some a) < word_at M (Some b)
   unfolding Before
   order a b h = ⊎_elim (λ l. omega (arith, digits_lt l h)) (λ w. omega (arith, ap (λ (p : ℕ). p * M) w.0))
 
-  pub order_back : (a b : Name) → b.slot.0 < M → word_at M (Object a) < word_at M (Object b) → Before a b
+  pub order_back : (a b : Name) → b.slot.0 < M → word_at M (Some a) < word_at M (Some b) → Before a b
   unfolding Before
   order_back a b h l =
       ⊎_elim (λ d. inl d)

@@ -1,10 +1,12 @@
 -- Names, and references as words: 0 is nothing, M·p + s + 1 the object in slot s of partition p, for a multiplier M above every slot number.
-use Rattle.std.specs.Prelude.{ℕ, ◌+◌, ◌-◌, ◌*◌, ◌/◌, ◌%◌, ◌<◌, cond, eqb}
+use Rattle.std.specs.Prelude.{ℕ, ◌+◌, ◌-◌, ◌*◌, ◌/◌, ◌%◌, ◌<◌, cond, eqb, Option, None, Some}
 use Rattle.kinds.specs.declared.Partition.{Partition}
 use Rattle.kinds.specs.declared.Name.{Name}
 use Rattle.kinds.specs.declared.Handle.{Handle}
-use Rattle.kinds.specs.declared.Target.{Target}
-use Rattle.kinds.specs.declared.Target.TheVariants.{Nothing, Object}
+
+-- what a field, a root or a handle holds
+abbrev pub Target : Type 0
+Target = Option Name
 
 -- the limits: partitions, slots of each, slots of all, roots, session handles, fields of an object, names of an outlist, operations of a commit
 abbrev pub most_partitions : ℕ
@@ -47,12 +49,12 @@ session h = record { 0 = h }
 
 -- the word of a target at multiplier M
 abbrev pub word_at : ℕ → Target → ℕ
-word_at M Nothing = 0
-word_at M (Object n) = n.partition.0 * M + n.slot.0 + 1
+word_at M None = 0
+word_at M (Some n) = n.partition.0 * M + n.slot.0 + 1
 
 -- the target of a word at multiplier M
 abbrev pub target_at : ℕ → ℕ → Target
-target_at M w = cond (eqb w 0) Nothing (Object (named ((w - 1) / M) ((w - 1) % M)))
+target_at M w = cond (eqb w 0) None (Some (named ((w - 1) / M) ((w - 1) % M)))
 
 -- the words of the image
 unfoldable pub word_of : Target → ℕ
@@ -63,8 +65,8 @@ target_of w = target_at radix w
 
 -- a target in a heap of at most m slots a partition
 abbrev pub NamedBelow : ℕ → Target → Type 0
-NamedBelow m Nothing = Unit {0}
-NamedBelow m (Object n) = (n.partition.0 < most_partitions) × (n.slot.0 < m)
+NamedBelow m None = Unit {0}
+NamedBelow m (Some n) = (n.partition.0 < most_partitions) × (n.slot.0 < m)
 
 -- a target whose numbers are within the limits, so that its word fits 32 bits
 abbrev pub Named : Target → Type 0

@@ -34,6 +34,9 @@ pub struct Name {
 impl Name {
     // How many objects there can be.
     pub const LIMIT: usize = (Partition::LIMIT * Slot::LIMIT) as usize;
+
+    // The multiplier of a reference word: nothing is 0, the object in slot s of partition p is RADIX * p + s + 1.
+    pub const RADIX: u32 = Slot::LIMIT;
 }
 
 // Slot s of partition p.
@@ -62,19 +65,10 @@ pub enum Start {
 }
 
 // What a field, a root or a handle holds: nothing, or an object.
-#[derive(Clone, Copy)]
-pub enum Target {
-    Nothing,
-    Object(Name),
-}
+pub type Target = Option<Name>;
 
-impl Target {
-    // The multiplier of a reference word: nothing is 0, the object in slot s of partition p is RADIX * p + s + 1.
-    pub const RADIX: u32 = Slot::LIMIT;
-
-    // How many roots there are.
-    pub const ROOTS: u32 = 16;
-}
+// How many roots there are.
+pub const ROOTS: u32 = 16;
 
 // One field of an object.
 #[derive(Clone, Copy)]
@@ -166,7 +160,8 @@ pub enum Single {
     Drop(Handle),
 }
 
-// Why a call is refused: the paper's number, and its extra answer.
+// Why a call is refused: the paper's number, and its extra answer. The number is no enum: exports and reports hand it out as it is, theorems say of it
+// between which numbers it lies (model/proofs/Numbers.antt), and `refuse` takes any.
 #[derive(Clone, Copy)]
 pub struct Refusal {
     pub number: u32,
@@ -213,31 +208,25 @@ impl Refusal {
     pub const NARROW: u32 = 19;
 }
 
-// What a judge says of an act.
-#[derive(Clone, Copy)]
-pub enum Verdict {
-    Accepted,
-    Refused(Refusal),
+// What a judge says of an act: accepted, or why it is refused.
+pub type Verdict = Result<(), Refusal>;
+
+// Refused, with a number and an extra answer.
+pub fn refuse(number: u32, extra: usize) -> Verdict
+    ensures { result ≡ refuse number extra }
+{
+    Err(Refusal { number, extra })
 }
 
-impl Verdict {
-    // Refused, with a number and an extra answer.
-    pub fn refuse(number: u32, extra: usize) -> Verdict
-        ensures { result ≡ refuse number extra }
-    {
-        Verdict::Refused(Refusal {
-            number: number,
-            extra: extra,
-        })
-    }
+// Why an object is still here: what the chain that holds it starts from, and the number of its references.
+#[derive(Clone, Copy)]
+pub struct Held {
+    pub start: Start,
+    pub references: usize,
 }
 
-// Why an object is still here: what the chain that holds it starts from and the number of its references, or the refusal.
-#[derive(Clone, Copy)]
-pub enum Reason {
-    Held(Start, usize),
-    Refused(Refusal),
-}
+// Held so, or the refusal.
+pub type Reason = Result<Held, Refusal>;
 
 // The word of a target.
 pub fn word_of(t: Target) -> u32
@@ -245,8 +234,8 @@ pub fn word_of(t: Target) -> u32
     ensures { result ≡ word_of t }
 {
     match t {
-        Target::Nothing => 0,
-        Target::Object(n) => n.partition.0 * Target::RADIX + n.slot.0 + 1,
+        None => 0,
+        Some(n) => n.partition.0 * Name::RADIX + n.slot.0 + 1,
     }
 }
 
@@ -255,12 +244,12 @@ pub fn target_of(w: u32) -> Target
     ensures { result ≡ target_of w }
 {
     if w == 0 {
-        return Target::Nothing;
+        return None;
     }
     let k = w - 1;
-    Target::Object(Name {
-        partition: Partition(k / Target::RADIX),
-        slot: Slot(k % Target::RADIX),
+    Some(Name {
+        partition: Partition(k / Name::RADIX),
+        slot: Slot(k % Name::RADIX),
     })
 }
 
@@ -268,9 +257,7 @@ pub fn target_of(w: u32) -> Target
 pub fn blank() -> Record
     ensures { result ≡ blank_record }
 {
-    let f = Field {
-        target: Target::Nothing,
-    };
+    let f = Field { target: None };
     Record {
         payload: 0,
         fields: [f, f, f, f],

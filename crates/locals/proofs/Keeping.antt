@@ -3,32 +3,25 @@
 use Prim.Native.Nat.{ℕ, ◌+◌, ◌*◌, ◌<◌}
 use mathlib.Core.Path.{◌≡◌, refl, ap}
 use mathlib.Core.Bool.{true, not}
-use mathlib.Core.Logic.{◌≢◌}
 use native.Mathlib.Omega.{arith}
 use lib.Dec.{ltb}
 use lib.ListN.{replicate}
-use borrow.Author.Tests.{ltb-true, ltb-false, lt-ltb, le-ltb, eqb-true, eq-eqb, ne_eqb, not-true}
+use borrow.Author.Tests.{ltb-true, ltb-false, lt-ltb, le-ltb, eqb-true, eq-eqb, not-true}
 use Rattle.loops.specs.Loop.{both, each}
 use Rattle.loops.proofs.Tests.{same_test, both_true}
 use Rattle.kinds.specs.Names.{most_places}
-use Rattle.model.specs.Image.{Image, Key, anchor, inlist, field, anchors, get}
+use Rattle.model.specs.Image.{Image, Key, anchor, inlist, field, anchors}
 use Rattle.model.specs.Acts.{own, local_start, local_bits}
-use Rattle.model.specs.Questions.{Bits, add_bit, collect, held, held_at}
+use Rattle.model.specs.Questions.{Bits, collect, held, held_at}
 use Rattle.model.proofs.Places.{slot_in, row_part, part_row}
 use Rattle.model.proofs.Localizing.{own_in}
 use Rattle.model.proofs.Alike.{Alike, Fits, alike_none, collect_alike, spread_alike}
 use Rattle.image.specs.Within.{Within}
 use Rattle.todo.specs.Notes.{among, note_word, note_anchors, spread_among}
+use Rattle.todo.specs.More.{More}
+use Rattle.todo.specs.declared.Notes.{Notes}
 use Rattle.locals.specs.Slots.{named_one, Kept}
 use Rattle.image.proofs.Within.{places}
-
--- one slot, whose object foreign fields name or not
-module _ (S p : ℕ) (x : Image) (b : Bits) (k : ℕ) where
-  pub unnamed : get x (inlist (p * S + k)) ≡ 0 → b ≡ named_one S p x b k
-  unnamed e = rw e
-
-  pub named : get x (inlist (p * S + k)) ≢ 0 → add_bit b (p * S + k) ≡ named_one S p x b k
-  named ne = rw (ne_eqb _ _ ne)
 
 module _ {P S : ℕ} {x : Image} (w : Within P S x) (p : ℕ) (inp : p < P) where
   -- a reference into the row of p's places is one into p
@@ -61,7 +54,9 @@ module _ {P S : ℕ} {x : Image} (w : Within P S x) (p : ℕ) (inp : p < P) wher
   spread_kept = spread_alike most_places (P * S) _ _ _ (λ s. p * S + s) S 4 (λ j k l m. row_own (field (p * S + j) k)) (λ j k l m. own_small (field (p * S + j) k)) _ _ begun
 
   -- from nothing: what roots name, what counts say, and what is spread from there
-  pub all_kept : {a b c d : Bits} → a ≡ replicate most_places 0 → b ≡ note_anchors S (p * S) S x a → c ≡ each S (named_one S p x) b → d ≡ spread_among S (p * S) S x c
+  pub all_kept : {a b c : Notes} {d : Bits} → (a.lo ≡ p * S) × (a.n ≡ S) × (a.marks ≡ replicate most_places 0)
+      → (b.marks ≡ note_anchors S a.lo a.n x a.marks) × More a b → (c.marks ≡ each S (named_one S p x) b.marks) × More b c → d ≡ spread_among S c.lo c.n x c.marks
       → Kept P S p x d
   unfolding Kept
-  all_kept e f g h j = rw (h, g, f, e) (spread_kept.same j)
+  all_kept e f g h j =
+      rw (h, g.1.lo_same, g.1.n_same, g.0, f.1.lo_same, f.1.n_same, f.0, e.0, e.1, e.2) (spread_kept.same j)

@@ -1,5 +1,5 @@
 -- The outlist while its names are put down: what the code of the list asks.
-use Rattle.std.specs.Prelude.{ℕ, ◌*◌, ◌/◌, ◌≤◌, ◌<◌, ◌≡◌, true, List, length}
+use Rattle.std.specs.Prelude.{ℕ, ◌*◌, ◌/◌, ◌≤◌, ◌<◌, ◌≡◌, true, length}
 use Rattle.loops.specs.Loop.{tally}
 use Rattle.kinds.specs.Names.{most_places, most_names}
 use Rattle.kinds.specs.declared.Outlist.{Outlist}
@@ -13,9 +13,6 @@ pub record FieldOf (P S : ℕ) (img : Image) (p f : ℕ) (bits : Bits) : Type 0 
   pub place : SlotOf P S img p (f / 4)
   pub wide : length bits ≡ most_places
 
-abbrev pub name_state : ℕ → List ℕ → Outlist
-name_state n names = record { number = n; names = names }
-
 -- places in range, and room for the name of each that is marked
 pub record Gathers (P S : ℕ) (bits : Bits) : Type 0 where
   pub limits : Limits P S
@@ -24,9 +21,9 @@ pub record Gathers (P S : ℕ) (bits : Bits) : Type 0 where
   pub few : tally most_places (has_bit bits) ≤ most_names
 
 -- the same of one place
-pub record Placed (S : ℕ) (bits : Bits) (i : ℕ) (names : List ℕ) (n : ℕ) : Type 0 where
+pub record Placed (S : ℕ) (bits : Bits) (i : ℕ) (o : Outlist) : Type 0 where
   pub some_slot : 0 < S
   pub place : i < most_places
   pub wide : length bits ≡ most_places
-  pub long : length names ≡ most_names
-  pub room : has_bit bits i ≡ true → n < most_names
+  pub long : length o.names ≡ most_names
+  pub room : has_bit bits i ≡ true → o.number < most_names

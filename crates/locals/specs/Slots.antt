@@ -5,12 +5,17 @@ use Rattle.model.specs.Image.{Image, inlist}
 use Rattle.model.specs.Acts.{used, clear, local_bits}
 use Rattle.model.specs.Questions.{Bits, has_bit, add_bit, held}
 use Rattle.image.specs.Within.{Within}
+use Rattle.todo.specs.declared.Notes.{Notes}
 
 -- slot s is one of partition p's
 pub record SlotOf (P S : ℕ) (img : Image) (p s : ℕ) : Type 0 where
   pub within : Within P S img
   pub part : p < P
   pub slot : s < S
+
+-- the places that notes are of are partition p's
+abbrev pub NotesOf : ℕ → ℕ → Notes → Type 0
+NotesOf S p notes = (notes.lo ≡ p * S) × (notes.n ≡ S)
 
 -- the object in slot s of p, if its count is above 0, is noted
 abbrev pub named_one : ℕ → ℕ → Image → Bits → ℕ → Bits

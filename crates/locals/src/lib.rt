@@ -10,86 +10,59 @@ ghost use Rattle.kinds.specs.Names.{most_places};
 ghost use Rattle.model.specs.Acts.{local_up, local_freed};
 ghost use Rattle.model.specs.Outlist.{out_one, out_bits, name_one, list_names, outlist};
 ghost use Rattle.image.specs.Within.{Within};
-ghost use Rattle.todo.specs.Notes.{Noted, More};
-ghost use Rattle.loops.specs.Loop.{bit, each, tally};
-ghost use Rattle.locals.specs.Outlist.{FieldOf, name_state, Placed, Gathers};
-ghost use Rattle.locals.specs.Slots.{SlotOf, named_one, Kept, lost_at, settle_of};
+ghost use Rattle.todo.specs.More.{More};
+ghost use Rattle.loops.specs.Loop.{each, tally};
+ghost use Rattle.locals.specs.Outlist.{FieldOf, Placed, Gathers};
+ghost use Rattle.locals.specs.Slots.{SlotOf, NotesOf, named_one, Kept, lost_at, settle_of};
 
 use kinds::{Name, Outlist, Partition};
+use todo::Notes;
 
 // The object in slot k of partition t is noted, if foreign fields name it.
-fn note_named(
-    img: &[u32],
-    p: usize,
-    s: usize,
-    t: usize,
-    k: usize,
-    marks: &mut [u32; Name::LIMIT],
-    list: &mut [u32; Name::LIMIT],
-    m: usize,
-) -> usize
+fn note_named(img: &[u32], p: usize, s: usize, t: usize, k: usize, notes: &mut Notes)
     requires slot_of { SlotOf p s img.now t k }
-    requires noted { Noted (t * s) s marks.old list.old m }
-    ensures { (marks.new ≡ named_one s t img.now marks.old k) × More (t * s) s list.old m marks.new list.new result }
+    requires notes_of { NotesOf s t notes.old }
+    ensures { (notes.new.marks ≡ named_one s t img.now notes.old.marks k) × More notes.old notes.new }
 {
-    let lo = t * s;
-    let j = lo + k;
+    let j = t * s + k;
     if image::inlist_at(img, j) == 0 {
-        return m;
+        return;
     }
-    todo::enter(lo, s, j, &mut *marks, &mut *list, m)
+    notes.enter(j);
 }
 
 // Every object of partition t that foreign fields name is noted.
-fn note_counted(
-    img: &[u32],
-    p: usize,
-    s: usize,
-    t: usize,
-    marks: &mut [u32; Name::LIMIT],
-    list: &mut [u32; Name::LIMIT],
-    m: usize,
-) -> usize
+fn note_counted(img: &[u32], p: usize, s: usize, t: usize, notes: &mut Notes)
     requires within { Within p s img.now }
     requires t_lt_p { t < p }
-    requires noted { Noted (t * s) s marks.old list.old m }
-    ensures { (marks.new ≡ each s (named_one s t img.now) marks.old) × More (t * s) s list.old m marks.new list.new result }
+    requires notes_of { NotesOf s t notes.old }
+    ensures { (notes.new.marks ≡ each s (named_one s t img.now) notes.old.marks) × More notes.old notes.new }
 {
-    let mut end = m;
-    let mut k: usize = 0;
-    while k < s {
-        end = note_named(img, p, s, t, k, &mut *marks, &mut *list, end);
-        k += 1;
+    for k in 0..s {
+        note_named(img, p, s, t, k, &mut *notes);
     }
-    end
 }
 
 // The places of partition t that stay are noted: what roots, handles and foreign fields name there, then what chains inside t lead to.
-fn keep(img: &[u32], p: usize, s: usize, t: usize, marks: &mut [u32; Name::LIMIT])
+fn keep(img: &[u32], p: usize, s: usize, t: usize, notes: &mut Notes)
     requires within { Within p s img.now }
-    requires t_lt_p { (t < p) × (marks.old ≡ replicate most_places 0) }
-    ensures { Kept p s t img.now marks.new }
+    requires t_lt_p { t < p }
+    requires notes_of { NotesOf s t notes.old }
+    requires none { notes.old.marks ≡ replicate most_places 0 }
+    ensures { Kept p s t img.now notes.new.marks }
 {
-    let lo = t * s;
-    let mut list = image::zeros();
-    let named = todo::note_anchors(img, p, s, lo, s, &mut *marks, &mut list, 0);
-    let m = note_counted(img, p, s, t, &mut *marks, &mut list, named);
-    todo::spread(img, p, s, lo, s, &mut *marks, &mut list, m);
+    notes.note_anchors(img, p, s);
+    note_counted(img, p, s, t, &mut *notes);
+    notes.spread(img, p, s);
 }
 
-// 1 where the object in slot k of partition t is in use and not noted, else 0.
-fn lost_at(img: &[u32], p: usize, s: usize, t: usize, marks: &[u32; Name::LIMIT], k: usize) -> usize
+// Whether the object in slot k of partition t is in use and not noted.
+fn is_lost(img: &[u32], p: usize, s: usize, t: usize, marks: &[u32; Name::LIMIT], k: usize) -> bool
     requires { SlotOf p s img.now t k }
-    ensures { result ≡ bit (lost_at s t img.now marks.now k) }
+    ensures { result ≡ lost_at s t img.now marks.now k }
 {
     let j = t * s + k;
-    if marks[j] == 1 {
-        return 0;
-    }
-    if image::state_at(img, j) == 0 {
-        return 0;
-    }
-    1
+    marks[j] != 1 && image::state_at(img, j) != 0
 }
 
 // How many objects of partition t are in use and not noted.
@@ -98,14 +71,7 @@ fn lost(img: &[u32], p: usize, s: usize, t: usize, marks: &[u32; Name::LIMIT]) -
     requires t_lt_p { t < p }
     ensures { result ≡ tally s (lost_at s t img.now marks.now) }
 {
-    let mut c: usize = 0;
-    let mut k: usize = 0;
-    while k < s {
-        let one = lost_at(img, p, s, t, marks, k);
-        c += one;
-        k += 1;
-    }
-    c
+    (0..s).filter(|k| is_lost(img, p, s, t, marks, *k)).count()
 }
 
 // A place that is not noted becomes free.
@@ -126,10 +92,8 @@ fn free(img: &mut [u32], p: usize, s: usize, t: usize, marks: &[u32; Name::LIMIT
     requires t_lt_p { t < p }
     ensures { img.new ≡ each s (λ x k. settle_of s marks.now x (t * s + k)) img.old }
 {
-    let mut k: usize = 0;
-    while k < s {
+    for k in 0..s {
         settle(&mut *img, p, s, marks, t * s + k);
-        k += 1;
     }
 }
 
@@ -140,11 +104,11 @@ pub fn local(img: &mut [u32], p: usize, s: usize, t: Partition) -> usize
     ensures { (img.new ≡ local_up p s t.0 img.old) × (result ≡ local_freed p s t.0 img.old) }
 {
     let q = t.0 as usize;
-    let mut marks = image::zeros();
-    keep(img, p, s, q, &mut marks);
-    let n = lost(img, p, s, q, &marks);
-    free(img, p, s, q, &marks);
-    n
+    let mut notes = Notes::new(q * s, s);
+    keep(&*img, p, s, q, &mut notes);
+    let freed = lost(&*img, p, s, q, &notes.marks);
+    free(img, p, s, q, &notes.marks);
+    freed
 }
 
 // What field f of partition t's fields names outside t is marked, if it is an object's.
@@ -174,31 +138,22 @@ fn mark_outs(img: &[u32], p: usize, s: usize, t: usize, bits: &mut [u32; Name::L
     requires t_lt_p { (t < p) × (bits.old ≡ replicate most_places 0) }
     ensures { bits.new ≡ out_bits s t img.now }
 {
-    let n = 4 * s;
-    let mut f: usize = 0;
-    while f < n {
+    for f in 0..4 * s {
         mark_out(img, p, s, t, f, &mut *bits);
-        f += 1;
     }
 }
 
 // The name of place i, if it is marked, is put at the list's end.
-fn put_name(
-    s: usize,
-    bits: &[u32; Name::LIMIT],
-    i: usize,
-    names: &mut [u32; Outlist::LIMIT],
-    n: usize,
-) -> usize
-    requires { Placed s bits.now i names.old n }
-    ensures { name_state result names.new ≡ name_one s bits.now (name_state n names.old) i }
+fn put_name(s: usize, bits: &[u32; Name::LIMIT], i: usize, outlist: &mut Outlist)
+    requires { Placed s bits.now i outlist.old }
+    ensures { outlist.new ≡ name_one s bits.now outlist.old i }
 {
     if bits[i] != 1 {
-        return n;
+        return;
     }
-    let w = i / s * kinds::Target::RADIX as usize + i % s + 1;
-    names[n] = w as u32;
-    n + 1
+    let w = i / s * kinds::Name::RADIX as usize + i % s + 1;
+    outlist.names[outlist.number] = w as u32;
+    outlist.number += 1;
 }
 
 // The names of all marked places, in order.
@@ -206,18 +161,11 @@ fn gather(p: usize, s: usize, bits: &[u32; Name::LIMIT]) -> Outlist
     requires { Gathers p s bits.now }
     ensures { result ≡ list_names (p * s) s bits.now }
 {
-    let m = p * s;
-    let mut names = [0u32; Outlist::LIMIT];
-    let mut n: usize = 0;
-    let mut i: usize = 0;
-    while i < m {
-        n = put_name(s, bits, i, &mut names, n);
-        i += 1;
+    let mut outlist = kinds::no_names();
+    for i in 0..p * s {
+        put_name(s, bits, i, &mut outlist);
     }
-    Outlist {
-        number: n,
-        names: names,
-    }
+    outlist
 }
 
 // The outlist of partition t.

@@ -3,3 +3,4 @@ pub mod Loops
 pub mod Turns
 pub mod Rest
 pub mod Walks
+pub mod Ranges

@@ -93,6 +93,11 @@ tally_some zero f i l e = absurd (not-suc-le-zero l)
 tally_some (suc n) f i l e =
     ⊎_elim (λ q. let b : bit (f n) ≡ 1 = rw (← q, e) in omega arith) (λ q. let r = tally_some n f i q e in omega arith) (eq-or-lt_of_le (le_of_suc-le-suc l))
 
+pub every_same : (n : ℕ) (f g : ℕ → Bool) → ((i : ℕ) → i < n → f i ≡ g i) → every n f ≡ every n g
+unfolding every
+every_same zero f g h = refl
+every_same (suc n) f g h = rw (every_same n f g (λ i l. h i (omega arith)), h n (omega arith))
+
 pub every_true : (n : ℕ) (f : ℕ → Bool) → every n f ≡ true → (i : ℕ) → i < n → f i ≡ true
 unfolding every
 every_true zero f e i l = absurd (not-suc-le-zero l)

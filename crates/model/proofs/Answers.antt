@@ -8,8 +8,8 @@ use Rattle.loops.specs.Cases.{case, Agree}
 use Rattle.kinds.specs.Names.{partition, named, session, radix}
 use Rattle.kinds.specs.Operations.{new, set_to, val, root_to, unroot, three}
 use Rattle.kinds.specs.declared.Single.TheVariants.{Open, Trace, Close, Local, Hold, Drop}
-use Rattle.kinds.specs.declared.Verdict.{Verdict}
-use Rattle.kinds.specs.declared.Verdict.TheVariants.{Accepted, Refused}
+use Rattle.kinds.specs.Answers.{Verdict}
+use Rattle.std.specs.Prelude.{Ok, Err}
 use Rattle.model.proofs.Computing.{imaging, looping, acting, judging, asking, sounding}
 use Rattle.model.specs.Image.{Image, handle, count, allowance, inlist, get, put, blank}
 use Rattle.model.specs.Acts.{Act, commit, single, local_up, local_freed, unmarked, apply}
@@ -27,13 +27,13 @@ pub data Shown : Type 0 where
   collected : ℕ → ℕ → ℕ → Shown
 
 abbrev pub shown : Verdict → Image → Shown
-shown Accepted img = accepted (get img allowance) (get img count) (unmarked 8 img)
-shown (Refused r) img = refused r.number r.extra
+shown (Ok _) img = accepted (get img allowance) (get img count) (unmarked 8 img)
+shown (Err r) img = refused r.number r.extra
 
 -- acts, each left out where it is refused
 abbrev pub next : Verdict → Image → Image → Image
-next Accepted old new = new
-next (Refused r) old new = old
+next (Ok _) old new = new
+next (Err r) old new = old
 
 abbrev pub after : Image → List Act → Image
 after img [] = img

@@ -12,12 +12,12 @@ use Rattle.loops.proofs.Tests.{clash}
 use Rattle.kinds.specs.Names.{roots, word_of}
 use Rattle.kinds.specs.declared.Name.{Name}
 use Rattle.kinds.specs.declared.Handle.{Handle}
-use Rattle.kinds.specs.declared.Target.{Target}
-use Rattle.kinds.specs.declared.Target.TheVariants.{Nothing, Object}
+use Rattle.kinds.specs.Names.{Target}
+use Rattle.std.specs.Prelude.{None, Some}
 use Rattle.kinds.specs.declared.Operation.{Operation}
 use Rattle.kinds.specs.declared.Operation.TheVariants.{New, Set, Val, Root}
 use Rattle.kinds.specs.declared.Single.TheVariants.{Open, Trace, Close, Local, Hold, Drop}
-use Rattle.kinds.specs.declared.Verdict.TheVariants.{Accepted}
+use Rattle.kinds.specs.Answers.{allowed}
 use Rattle.model.specs.Image.{Image, Key, anchor, handle, anchors, flag, state, payload, field, count, get, put, place, place_of, refer, Holder, an_anchor, a_field}
 use Rattle.model.specs.Spread.{start, step}
 use Rattle.model.specs.Acts.{Act, commit, single, local_bits, local_up, mark, store, born, perform, perform_all, open_up, target, inside, outside, finish, trace_one, apply}
@@ -51,7 +51,7 @@ module _ (P S : ℕ) (limits : Limits P S) where
       rw (← n.2.target) ((w.refs _ h n.2.some).0, led_leads P S x e _ h m.1 n.2.some)
 
   -- close keeps every object that a root or a handle leads to
-  pub close_keeps : (x : Image) → Linked P S x → judge P S x (single Close) ≡ Accepted → (i : ℕ) → Leads S x i → Stays x (apply P S x (single Close)) i
+  pub close_keeps : (x : Image) → Linked P S x → judge P S x (single Close) ≡ allowed → (i : ℕ) → Leads S x i → Stays x (apply P S x (single Close)) i
   unfolding apply
   close_keeps x w j i l =
       let m = leads_marked x w (closed_is P S limits x j).1 i l in
@@ -153,12 +153,12 @@ module _ (P S : ℕ) (limits : Limits P S) where
         subst (Chained h) e (chained_refer h _ κ (word_of t) g a (rw e (phase_store P S limits y κ t g u m c.phase)) d)
 
     -- what a stored target's word names
-    stored_word : (h : List Step) (y : Image) (t : Target) → May P S y t → ((q : Name) → t ≡ Object q → ChainOf h (place S q)) → word_of t ≢ 0 → ChainOf h (place_of S (word_of t))
+    stored_word : (h : List Step) (y : Image) (t : Target) → May P S y t → ((q : Name) → t ≡ Some q → ChainOf h (place S q)) → word_of t ≢ 0 → ChainOf h (place_of S (word_of t))
     stored_word h y _ none a ne = absurd (ne word_none)
     stored_word h y _ (some {q = q} lq ls u) a ne = rw (place_word S q (omega arith)) (a q refl)
 
     -- a root or a handle takes a target
-    chained_anchor : (h : List Step) (y : Image) (a : ℕ) (t : Target) → a < anchors → May P S y t → ((q : Name) → t ≡ Object q → ChainOf h (place S q)) → Chained h y → Chained h (store S y (anchor a) t)
+    chained_anchor : (h : List Step) (y : Image) (a : ℕ) (t : Target) → a < anchors → May P S y t → ((q : Name) → t ≡ Some q → ChainOf h (place S q)) → Chained h y → Chained h (store S y (anchor a) t)
     chained_anchor h y a t l m b c = chained_store h y (anchor a) t (an_anchor l) (no_field (λ j. get y (state j) ≢ 0)) m (stored_word h y t m b) c
 
     chained_new : (h : List Step) (y : Image) (n : Name) (v : ℕ) → n.partition.0 < P → n.slot.0 < S → get y (state (place S n)) ≡ 0 → Taken (op (New n v)) h → Chained h y
@@ -209,7 +209,7 @@ module _ (P S : ℕ) (limits : Limits P S) where
         chained_births h (op (Root r t) ∷ h) _ (λ i. refl) (chained_anchor h y r t lr m (λ q e. stored_root (rw e at tk)) c)
 
     -- hold and drop
-    chained_take : (h : List Step) (y : Image) (g : Handle) (t : Target) → Good P S y (taking g t) → ((q : Name) → t ≡ Object q → ChainOf h (place S q)) → Chained h y → Chained h (store S y (handle g.0) t)
+    chained_take : (h : List Step) (y : Image) (g : Handle) (t : Target) → Good P S y (taking g t) → ((q : Name) → t ≡ Some q → ChainOf h (place S q)) → Chained h y → Chained h (store S y (handle g.0) t)
     chained_take h y g _ (good_root {t = t} l m) b c = chained_anchor h y (roots + g.0) t l m b c
 
     -- a local collection: no birth changes
@@ -254,7 +254,7 @@ module _ (P S : ℕ) (limits : Limits P S) where
     above_steps (commit os ∷ acts) = above_push os _ (above_steps acts)
     above_steps (single a ∷ acts) = more (above_steps acts)
 
-    chained_commit : (h : List Step) (y : Image) (e : ℕ) (os : List Operation) → judge_ops P S y e os ≡ Accepted → ((s : Step) (f : List Step) → Since base (push os h) s f → Taken s f) → Above base h
+    chained_commit : (h : List Step) (y : Image) (e : ℕ) (os : List Operation) → judge_ops P S y e os ≡ allowed → ((s : Step) (f : List Step) → Since base (push os h) s f → Taken s f) → Above base h
         → Chained h y → Chained (push os h) (perform_all S y os)
     unfolding judge_ops perform_all push
     chained_commit h y e [] j sub a c = c
@@ -288,11 +288,11 @@ module _ (P S : ℕ) (limits : Limits P S) where
         (chained_local (steps acts base) y p.0 (ltb-true p.0 P (check_true _ _ _ _ j).0) (run_kept P S _ so r).sound (chained sh so acts y r u (λ s e q. sub s e (before q))))
     chained sh so _ _ (acted {acts = acts} {y = y} (single (Hold h n)) r j) u sub =
         chained_births (steps acts base) _ _ (λ i. refl)
-        (chained_take (steps acts base) y h (Object n) (good_hold P S y h n j)
+        (chained_take (steps acts base) y h (Some n) (good_hold P S y h n j)
         (λ q e. let d : n ≡ q = cc in rw (← d) (stored_handle (sub _ _ (last (above_steps acts))))) (chained sh so acts y r u (λ s e q. sub s e (before q))))
     chained sh so _ _ (acted {acts = acts} {y = y} (single (Drop h)) r j) u sub =
         chained_births (steps acts base) _ _ (λ i. refl)
-        (chained_take (steps acts base) y h Nothing (good_drop P S y h j) (λ q e. let z : ◌≡◌ {A = ℕ} 0 1 = cc in absurd (omega arith)) (chained sh so acts y r u (λ s e q. sub s e (before q))))
+        (chained_take (steps acts base) y h None (good_drop P S y h j) (λ q e. let z : ◌≡◌ {A = ℕ} 0 1 = cc in absurd (omega arith)) (chained sh so acts y r u (λ s e q. sub s e (before q))))
 
   -- close frees every object that no chain leads to
   pub close_frees : (earlier : List Act) (x : Image) → Shut P S limits x → SoundAt P S (apply P S x (single Open)) → (acts : List Act) (y : Image) → Run P S (apply P S x (single Open)) acts y → Unclosed acts

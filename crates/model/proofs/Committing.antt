@@ -14,13 +14,14 @@ use Rattle.loops.proofs.Tests.{both_true}
 use Rattle.kinds.specs.Names.{roots, handles, word_of}
 use Rattle.kinds.specs.declared.Name.{Name}
 use Rattle.kinds.specs.declared.Handle.{Handle}
-use Rattle.kinds.specs.declared.Target.{Target}
-use Rattle.kinds.specs.declared.Target.TheVariants.{Nothing, Object}
+use Rattle.kinds.specs.Names.{Target}
+use Rattle.std.specs.Prelude.{None, Some}
 use Rattle.kinds.specs.declared.Operation.{Operation}
 use Rattle.kinds.specs.declared.Operation.TheVariants.{New, Set, Val, Root}
 use Rattle.kinds.specs.declared.Single.TheVariants.{Hold, Drop}
-use Rattle.kinds.specs.declared.Verdict.{Verdict}
-use Rattle.kinds.specs.declared.Verdict.TheVariants.{Accepted, Refused}
+use Rattle.kinds.specs.Answers.{Verdict}
+use Rattle.std.specs.Prelude.{Ok, Err}
+use Rattle.kinds.specs.Answers.{allowed}
 use Rattle.model.specs.Image.{Image, Key, head, anchor, state, payload, field, anchors, get, place, place_of, refer, Holder, an_anchor, a_field}
 use Rattle.model.specs.Acts.{single, used, is_open, mark, mark_word, store, born, perform, perform_all}
 use Rattle.model.specs.Judge.{check, and_then, in_heap, target_in_heap, target_used, judge_op, judge_ops, judge_name, judge}
@@ -33,31 +34,31 @@ use Rattle.model.proofs.Moves.{Linked}
 use Rattle.model.proofs.Phase.{Phase, open_true, phase_mark, phase_payload, phase_born, phase_refer}
 use Rattle.model.proofs.Tracing.{mark_read, mark_marks}
 
-pub check_true : (b : Bool) (n e : ℕ) (v : Verdict) → check b n e v ≡ Accepted → (b ≡ true) × (v ≡ Accepted)
+pub check_true : (b : Bool) (n e : ℕ) (v : Verdict) → check b n e v ≡ allowed → (b ≡ true) × (v ≡ allowed)
 unfolding check
 check_true true n e v q = (refl, q)
 check_true false n e v q = ((cc), (cc))
 
-pub then_true : (u v : Verdict) → and_then u v ≡ Accepted → (u ≡ Accepted) × (v ≡ Accepted)
+pub then_true : (u v : Verdict) → and_then u v ≡ allowed → (u ≡ allowed) × (v ≡ allowed)
 unfolding and_then
-then_true Accepted v q = (refl, q)
-then_true (Refused r) v q = (q, (cc))
+then_true (Ok _) v q = (refl, q)
+then_true (Err r) v q = (q, (cc))
 
 used_false : (x : Image) (i : ℕ) → not (used x i) ≡ true → get x (state i) ≡ 0
 used_false x i e = eqb-true _ _ (not-false _ (not-true _ e))
 
 -- a target that may be stored: nothing, or an object in use
 pub data May (P S : ℕ) (x : Image) : Target → Type 0 where
-  none : May P S x Nothing
-  some : {q : Name} → q.partition.0 < P → q.slot.0 < S → get x (state (place S q)) ≢ 0 → May P S x (Object q)
+  none : May P S x None
+  some : {q : Name} → q.partition.0 < P → q.slot.0 < S → get x (state (place S q)) ≢ 0 → May P S x (Some q)
 
 -- numbers that are not too large
 in_heap_lem : (P S : ℕ) (n : Name) → in_heap P S n ≡ true → (n.partition.0 < P) × (n.slot.0 < S)
 in_heap_lem P S n e = let b = both_true (ltb n.partition.0 P) (ltb n.slot.0 S) e in (ltb-true _ _ b.0, ltb-true _ _ b.1)
 
 may : (P S : ℕ) (x : Image) (t : Target) → target_in_heap P S t ≡ true → target_used S x t ≡ true → May P S x t
-may P S x Nothing r u = none
-may P S x (Object q) r u = let b = in_heap_lem P S q r in some b.0 b.1 (used_true x _ u)
+may P S x None r u = none
+may P S x (Some q) r u = let b = in_heap_lem P S q r in some b.0 b.1 (used_true x _ u)
 
 -- what an accepted operation may rely on (of a root: that it is an anchor, so that hold and drop rely on it too)
 pub data Good (P S : ℕ) (x : Image) : Operation → Type 0 where
@@ -66,7 +67,7 @@ pub data Good (P S : ℕ) (x : Image) : Operation → Type 0 where
   good_val : {n : Name} {v : ℕ} → n.partition.0 < P → n.slot.0 < S → get x (state (place S n)) ≢ 0 → Good P S x (Val n v)
   good_root : {r : ℕ} {t : Target} → r < anchors → May P S x t → Good P S x (Root r t)
 
-pub good : (P S : ℕ) (x : Image) (e : ℕ) (o : Operation) → judge_op P S x e o ≡ Accepted → Good P S x o
+pub good : (P S : ℕ) (x : Image) (e : ℕ) (o : Operation) → judge_op P S x e o ≡ allowed → Good P S x o
 unfolding judge_op
 good P S x e (New n v) j =
     let a = check_true _ _ _ _ j in
@@ -93,21 +94,21 @@ good P S x e (Root r t) j =
 abbrev pub taking : Handle → Target → Operation
 taking h t = Root (roots + h.0) t
 
-pub good_hold : (P S : ℕ) (x : Image) (h : Handle) (n : Name) → judge P S x (single (Hold h n)) ≡ Accepted → Good P S x (taking h (Object n))
+pub good_hold : (P S : ℕ) (x : Image) (h : Handle) (n : Name) → judge P S x (single (Hold h n)) ≡ allowed → Good P S x (taking h (Some n))
 unfolding judge judge_name
 good_hold P S x h n j =
     let a = check_true _ _ _ _ j in
     let b = check_true _ _ _ _ a.1 in
     let l = ltb-true h.0 handles a.0 in
-    good_root {r = roots + h.0} (omega arith) (may P S x (Object n) b.0 (check_true _ _ _ _ b.1).0)
+    good_root {r = roots + h.0} (omega arith) (may P S x (Some n) b.0 (check_true _ _ _ _ b.1).0)
 
-pub good_drop : (P S : ℕ) (x : Image) (h : Handle) → judge P S x (single (Drop h)) ≡ Accepted → Good P S x (taking h Nothing)
+pub good_drop : (P S : ℕ) (x : Image) (h : Handle) → judge P S x (single (Drop h)) ≡ allowed → Good P S x (taking h None)
 unfolding judge
 good_drop P S x h j = let l = ltb-true h.0 handles (check_true _ _ _ _ j).0 in good_root {r = roots + h.0} (omega arith) none
 
 -- whatever each accepted operation keeps, a commit keeps
-pub judged_keeps : (P S : ℕ) (Q : Image → Type 0) → ((x : Image) (e : ℕ) (o : Operation) → judge_op P S x e o ≡ Accepted → Q x → Q (perform S x o))
-    → (x : Image) (e : ℕ) (os : List Operation) → judge_ops P S x e os ≡ Accepted → Q x → Q (perform_all S x os)
+pub judged_keeps : (P S : ℕ) (Q : Image → Type 0) → ((x : Image) (e : ℕ) (o : Operation) → judge_op P S x e o ≡ allowed → Q x → Q (perform S x o))
+    → (x : Image) (e : ℕ) (os : List Operation) → judge_ops P S x e os ≡ allowed → Q x → Q (perform_all S x os)
 unfolding judge_ops perform_all
 judged_keeps P S Q h x e [] j q = q
 judged_keeps P S Q h x e (o ∷ os) j q =
@@ -115,7 +116,7 @@ judged_keeps P S Q h x e (o ∷ os) j q =
     judged_keeps P S Q h (perform S x o) (e + 1) os a.1 (h x e o a.0 q)
 
 pub commit_keeps : (P S : ℕ) (Q : Image → Type 0) → ((x : Image) (o : Operation) → Good P S x o → Q x → Q (perform S x o))
-    → (x : Image) (e : ℕ) (os : List Operation) → judge_ops P S x e os ≡ Accepted → Q x → Q (perform_all S x os)
+    → (x : Image) (e : ℕ) (os : List Operation) → judge_ops P S x e os ≡ allowed → Q x → Q (perform_all S x os)
 commit_keeps P S Q h = judged_keeps P S Q (λ x e o j q. h x o (good P S x e o j) q)
 
 pub at_field : (Q : ℕ → Type 0) {i k : ℕ} → Q i → (j c : ℕ) → field i k ≡ field j c → Q j

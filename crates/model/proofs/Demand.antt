@@ -10,7 +10,7 @@ use Rattle.loops.proofs.Tests.{eq_or_ne}
 use Rattle.kinds.specs.Answers.{refuse}
 use Rattle.kinds.specs.declared.Partition.{Partition}
 use Rattle.kinds.specs.declared.Single.TheVariants.{Open, Trace, Close}
-use Rattle.kinds.specs.declared.Verdict.TheVariants.{Accepted}
+use Rattle.kinds.specs.Answers.{allowed}
 use Rattle.model.specs.Image.{Image, flag, state, count, get}
 use Rattle.model.specs.Acts.{Act, single, not_clean, apply}
 use Rattle.model.specs.Judge.{in_limits, rooted, judge}
@@ -33,16 +33,16 @@ pub record Demand-3 (P S : ℕ) (earlier : List Act) (x : Image) (acts : List Ac
   pub counted : get y count ≡ traces acts
   -- no refusal stands in the way: not 1, 13 or 15 of a trace, nor 1, 10, 14 or 16 of a close
   pub sound : is_sound y ≡ true
-  pub traceable : (p : Partition) → p.0 < P → get y (flag p.0) ≡ 0 → judge P S y (single (Trace p)) ≡ Accepted
-  pub closable : not_clean P y ≡ 0 → rooted y ≡ true → judge P S y (single Close) ≡ Accepted
+  pub traceable : (p : Partition) → p.0 < P → get y (flag p.0) ≡ 0 → judge P S y (single (Trace p)) ≡ allowed
+  pub closable : not_clean P y ≡ 0 → rooted y ≡ true → judge P S y (single Close) ≡ allowed
   pub never : (a : Act) (e : ℕ) → (judge P S y a ≢ refuse 15 e) × (judge P S y a ≢ refuse 16 e)
   -- what the close leaves
-  pub keeps : judge P S y (single Close) ≡ Accepted → (j : ℕ) → Leads S y j → Stays y (apply P S y (single Close)) j
-  pub frees : judge P S y (single Close) ≡ Accepted → (j : ℕ) → j < P * S → (ChainTo S earlier x acts j → ⊥) → get (apply P S y (single Close)) (state j) ≡ 0
+  pub keeps : judge P S y (single Close) ≡ allowed → (j : ℕ) → Leads S y j → Stays y (apply P S y (single Close)) j
+  pub frees : judge P S y (single Close) ≡ allowed → (j : ℕ) → j < P * S → (ChainTo S earlier x acts j → ⊥) → get (apply P S y (single Close)) (state j) ≡ 0
   -- over objects, by place and birth: one that no chain leads to is gone after the close, whether the close or a local collection freed it
-  pub gone : judge P S y (single Close) ≡ Accepted → (j b : ℕ) → j < P * S → (ChainToBorn S earlier x acts j b → ⊥)
+  pub gone : judge P S y (single Close) ≡ allowed → (j b : ℕ) → j < P * S → (ChainToBorn S earlier x acts j b → ⊥)
       → (get (apply P S y (single Close)) (state j) ≡ 0) ⊎ (birth_now S earlier acts j ≢ b)
-  pub sound_after : judge P S y (single Close) ≡ Accepted → is_sound (apply P S y (single Close)) ≡ true
+  pub sound_after : judge P S y (single Close) ≡ allowed → is_sound (apply P S y (single Close)) ≡ true
   -- tracing the lowest partition that is not clean, again and again, ends within the bound, and then the phase can close if a root is in use
   pub progress : Ends P S (P + unanchored P S x) y
 

@@ -16,12 +16,12 @@ use Rattle.loops.proofs.Loops.{tally_same}
 use Rattle.kinds.specs.Names.{most_partitions, word_of}
 use Rattle.kinds.specs.declared.Name.{Name}
 use Rattle.kinds.specs.declared.Handle.{Handle}
-use Rattle.kinds.specs.declared.Target.{Target}
-use Rattle.kinds.specs.declared.Target.TheVariants.{Nothing, Object}
+use Rattle.kinds.specs.Names.{Target}
+use Rattle.std.specs.Prelude.{None, Some}
 use Rattle.kinds.specs.declared.Operation.{Operation}
 use Rattle.kinds.specs.declared.Operation.TheVariants.{New, Set, Val, Root}
 use Rattle.kinds.specs.declared.Single.TheVariants.{Open, Trace, Close, Local, Hold, Drop}
-use Rattle.kinds.specs.declared.Verdict.TheVariants.{Accepted}
+use Rattle.kinds.specs.Answers.{allowed}
 use Rattle.model.specs.Image.{Image, Key, head, anchor, handle, flag, state, payload, inlist, field, is_count, phase, count, allowance, get, put, length_of, size, place, place_of, part_of, Holder, an_anchor, a_field}
 use Rattle.model.specs.Spread.{Reach, start, step}
 use Rattle.model.specs.Acts.{Act, commit, single, marked, is_open, mark, mark_word, store, born, perform, perform_all, unmarked, mark_anchors, open_up, inside, outside, finish, trace_one, close_up, apply, own, foreign, target}
@@ -46,19 +46,19 @@ use Rattle.model.proofs.Collecting.{localized}
 use Rattle.model.proofs.Reaching.{traced_is}
 
 -- something is written at κ
-abbrev Some : (Key → ℕ → Type 0) → Key → Type 0
-Some W κ = (v : ℕ) × W κ v
+abbrev SomeValue : (Key → ℕ → Type 0) → Key → Type 0
+SomeValue W κ = (v : ℕ) × W κ v
 
 module _ (W : Key → ℕ → Type 0) (x : Image) where
   -- every word of y is written, or as in x
   abbrev Others : Image → Type 0
-  Others y = (μ : Key) → Fits μ → NoCount μ → Some W μ ⊎ (get y μ ≡ get x μ)
+  Others y = (μ : Key) → Fits μ → NoCount μ → SomeValue W μ ⊎ (get y μ ≡ get x μ)
 
   others_none : Others x
   others_none μ f c = inr refl
 
-  others_put : {n : ℕ} {y z : Image} {κ : Key} {v : ℕ} → Some W κ → Written n y κ v z → Others y → Others z
-  others_put e w o μ f c = ⊎_elim (λ q. inl (subst (Some W) q.0 e)) (λ q. ⊎_elim (λ r. inl r) (λ r. inr (q ∙ r)) (o μ f c)) (written_read w μ f c)
+  others_put : {n : ℕ} {y z : Image} {κ : Key} {v : ℕ} → SomeValue W κ → Written n y κ v z → Others y → Others z
+  others_put e w o μ f c = ⊎_elim (λ q. inl (subst (SomeValue W) q.0 e)) (λ q. ⊎_elim (λ r. inl r) (λ r. inr (q ∙ r)) (o μ f c)) (written_read w μ f c)
 
   -- x with more marks: a state that changed is a mark, and its partition is not clean
   module _ (P S : ℕ) (limits : Limits P S) where
@@ -76,7 +76,7 @@ module _ (W : Key → ℕ → Type 0) (x : Image) where
     part_small : (j : ℕ) → j < P * S → part_of S j < most_partitions
     part_small j l = omega (arith, parts P S limits.some_slot j l)
 
-    marking_mark : (z : Image) (t : ℕ) → t < P * S → (get x (state t) ≡ 1 → Some W (state t) × Some W (flag (part_of S t))) → Marking z → Marking (mark S z t)
+    marking_mark : (z : Image) (t : ℕ) → t < P * S → (get x (state t) ≡ 1 → SomeValue W (state t) × SomeValue W (flag (part_of S t))) → Marking z → Marking (mark S z t)
     marking_mark z t l h g =
         record {
           more = more_mark P S limits x z t l g.more;
@@ -156,7 +156,7 @@ module _ (P S : ℕ) (x : Image) (s : SoundAt P S x) where
 
   -- a target that is stored: its numbers and its place
   record Place (t : Target) (q : Name) : Type 0 where
-    is : t ≡ Object q
+    is : t ≡ Some q
     partition : q.partition.0 < P
     slot : q.slot.0 < S
     word : place_of S (word_of t) ≡ place S q
@@ -165,7 +165,7 @@ module _ (P S : ℕ) (x : Image) (s : SoundAt P S x) where
   may_place _ none ne = absurd (ne word_none)
   may_place _ (some {q = q} l m u) ne = (q, record { is = refl; partition = l; slot = m; word = place_word S q (omega (arith, s.limits.slots_most)) })
 
-  object_word_lem : (q : Name) → word_of (Object q) ≢ 0
+  object_word_lem : (q : Name) → word_of (Some q) ≢ 0
   unfolding word_of
   object_word_lem q e = omega arith
 
@@ -178,7 +178,7 @@ module _ (P S : ℕ) (x : Image) (s : SoundAt P S x) where
   storing_writes by_set = set
   storing_writes by_root = root_to
 
-  storing_stores : {o : Operation} {κ : Key} {t : Target} → Storing o κ t → (q : Name) → (t ≡ Object q → Stores o q) × (Stores o q → t ≡ Object q)
+  storing_stores : {o : Operation} {κ : Key} {t : Target} → Storing o κ t → (q : Name) → (t ≡ Some q → Stores o q) × (Stores o q → t ≡ Some q)
   storing_stores by_set q = ((λ e. e), (λ e. e))
   storing_stores by_root q = ((λ e. e), (λ e. e))
 
@@ -221,9 +221,9 @@ module _ (P S : ℕ) (x : Image) (s : SoundAt P S x) where
     module _ (q : Name) (b : Stores o q) (d : Unmarked S x q) where
       target_place : Place t q
       target_place =
-          let e : t ≡ Object q = (storing_stores c q).1 b in
+          let e : t ≡ Some q = (storing_stores c q).1 b in
           let p = may_place t may (λ z. object_word_lem q (ap word_of (sym e) ∙ z)) in
-          let i : t ≡ Object p.0 = p.1.is in
+          let i : t ≡ Some p.0 = p.1.is in
           let r : p.0 ≡ q = cc in
           subst (Place t) r p.1
 
@@ -296,9 +296,9 @@ module _ (P S : ℕ) (x : Image) (s : SoundAt P S x) where
       open_allowance P S limits x linked ∙
       ap (λ (n : ℕ). P + n) (tally_same (P * S) _ _ (λ j l. ap (λ (v : ℕ). eqb v 1) (sym (open_other P S limits x (state j) tt refl refl))))
 
-  open_others : (κ : Key) → In (P * S) κ → NoCount κ → Some (Opens P S x (open_up P S x)) κ ⊎ (get (open_up P S x) κ ≡ get x κ)
+  open_others : (κ : Key) → In (P * S) κ → NoCount κ → SomeValue (Opens P S x (open_up P S x)) κ ⊎ (get (open_up P S x) κ ≡ get x κ)
   open_others (head h) i c =
-      head_cases (λ h. Some (Opens P S x (open_up P S x)) (head h) ⊎ (get (open_up P S x) (head h) ≡ get x (head h)))
+      head_cases (λ h. SomeValue (Opens P S x (open_up P S x)) (head h) ⊎ (get (open_up P S x) (head h) ≡ get x (head h)))
       (inr (open_kept (head 0) (omega arith) (λ j. refl) (λ p. refl) (λ h l. ne_eqb h 0 (λ e. omega arith))))
       (inr (open_kept (head 1) (omega arith) (λ j. refl) (λ p. refl) (λ h l. ne_eqb h 1 (λ e. omega arith)))) (inl (1, opens)) (inl (0, restarts)) (inl (_, allows)) h i
   open_others (anchor r) i c = inr (open_kept (anchor r) i (λ j. refl) (λ p. refl) (λ h l. refl))
@@ -317,7 +317,7 @@ module _ (P S : ℕ) (x : Image) (s : SoundAt P S x) where
       marking : Marking (Traces S p x) x P S limits z
       within : (i : ℕ) → part_of S i ≡ p → get z (state i) ≡ 2 → Within S p x i
 
-    going_mark : (z : Image) (t : ℕ) → t < P * S → (get x (state t) ≡ 1 → Some (Traces S p x) (state t) × Some (Traces S p x) (flag (part_of S t))) → (part_of S t ≡ p → Within S p x t)
+    going_mark : (z : Image) (t : ℕ) → t < P * S → (get x (state t) ≡ 1 → SomeValue (Traces S p x) (state t) × SomeValue (Traces S p x) (flag (part_of S t))) → (part_of S t ≡ p → Within S p x t)
         → Going z → Going (mark S z t)
     going_mark z t l h r g = record { marking = marking_mark (Traces S p x) x P S limits z t l h g.marking; within = λ i near two. go i near two (ℕ_discrete t i) }
       where
@@ -416,13 +416,13 @@ module _ (P S : ℕ) (x : Image) (s : SoundAt P S x) where
       (λ l. close_allowance P S limits x linked) h i l
   close_written _ _ i (flags_down {p = p}) = close_flag P S limits x linked p i
 
-  close_content : {j : ℕ} {μ : Key} → Content j μ → j < P * S → (get x (state j) ≡ 1 → Closes x μ 0) → Some (Closes x) μ ⊎ (get (close_up P S x) μ ≡ get x μ)
+  close_content : {j : ℕ} {μ : Key} → Content j μ → j < P * S → (get x (state j) ≡ 1 → Closes x μ 0) → SomeValue (Closes x) μ ⊎ (get (close_up P S x) μ ≡ get x μ)
   close_content {j} c l h = ⊎_elim (λ e. inl (0, h e)) (λ e. inr (close_kept P S limits x linked c l e)) (eq_or_ne (get x (state j)) 1)
 
-  close_others : judge P S x (single Close) ≡ Accepted → (κ : Key) → In (P * S) κ → NoCount κ → Some (Closes x) κ ⊎ (get (close_up P S x) κ ≡ get x κ)
+  close_others : judge P S x (single Close) ≡ allowed → (κ : Key) → In (P * S) κ → NoCount κ → SomeValue (Closes x) κ ⊎ (get (close_up P S x) κ ≡ get x κ)
   unfolding apply
   close_others a (head h) i c =
-      head_cases (λ h. Some (Closes x) (head h) ⊎ (get (close_up P S x) (head h) ≡ get x (head h))) (inr (act_partitions P S x (single Close) s a)) (inr (act_slots P S x (single Close) s a))
+      head_cases (λ h. SomeValue (Closes x) (head h) ⊎ (get (close_up P S x) (head h) ≡ get x (head h))) (inr (act_partitions P S x (single Close) s a)) (inr (act_slots P S x (single Close) s a))
       (inl (0, shuts (omega arith))) (inl (0, shuts (omega arith))) (inl (0, shuts (omega arith))) h i
   close_others a (anchor r) i c = inr (close_anchor P S limits x linked r i)
   close_others a (flag p) i c = inl (0, flags_down)
@@ -466,7 +466,7 @@ took P S x h t s g =
       length = a.length;
     }
 
-committed : (P S : ℕ) (x : Image) (e : ℕ) (os : List Operation) → SoundAt P S x → judge_ops P S x e os ≡ Accepted → Committed P S x os (perform_all S x os)
+committed : (P S : ℕ) (x : Image) (e : ℕ) (os : List Operation) → SoundAt P S x → judge_ops P S x e os ≡ allowed → Committed P S x os (perform_all S x os)
 unfolding judge_ops perform_all
 committed P S x e [] s j = nothing_more
 committed P S x e (o ∷ os) s j =
@@ -474,11 +474,11 @@ committed P S x e (o ∷ os) s j =
     let g = good P S x e o a.0 in
     and_then (performed P S x s o g) (committed P S (perform S x o) (e + 1) os (holds_perform P S x o g s).sound a.1)
 
-act_length : (P S : ℕ) (x : Image) (a : Act) → SoundAt P S x → judge P S x a ≡ Accepted → length_of (apply P S x a) ≡ length_of x
+act_length : (P S : ℕ) (x : Image) (a : Act) → SoundAt P S x → judge P S x a ≡ allowed → length_of (apply P S x a) ≡ length_of x
 act_length P S x a s j = (act_sound P S x a s j).length_agrees ∙ sym s.length_agrees
 
 -- EVERY ACCEPTED ACT, on any sound image
-pub effect : (P S : ℕ) (x : Image) (a : Act) → SoundAt P S x → judge P S x a ≡ Accepted → Effect P S a x (apply P S x a)
+pub effect : (P S : ℕ) (x : Image) (a : Act) → SoundAt P S x → judge P S x a ≡ allowed → Effect P S a x (apply P S x a)
 unfolding judge apply
 effect P S x (commit os) s j = committed P S x 1 os s (check_true _ _ _ _ j).1
 effect P S x (single Open) s j =
@@ -497,8 +497,8 @@ effect P S x (single Close) s j =
       number = close_number P S x s;
     }
 effect P S x (single (Local p)) s j = localized P S p.0 (ltb-true p.0 P (check_true _ _ _ _ j).0) x s
-effect P S x (single (Hold h n)) s j = took P S x h (Object n) s (good_hold P S x h n j)
-effect P S x (single (Drop h)) s j = took P S x h Nothing s (good_drop P S x h j)
+effect P S x (single (Hold h n)) s j = took P S x h (Some n) s (good_hold P S x h n j)
+effect P S x (single (Drop h)) s j = took P S x h None s (good_drop P S x h j)
 
 -- NO SECOND IMAGE: x alone says every word of y
 leaves_agree : (n S : ℕ) (x : Image) (W U : Key → ℕ → Type 0) (y z : Image) → Leaves n S x W y → Leaves n S x U z

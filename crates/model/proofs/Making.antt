@@ -8,10 +8,10 @@ use native.Mathlib.Omega.{arith}
 use borrow.Author.Tests.{ne_eqb, ltb-true}
 use Rattle.loops.proofs.Loops.{each_keeps}
 use Rattle.kinds.specs.Names.{most_partitions, word_of}
-use Rattle.kinds.specs.declared.Target.{Target}
+use Rattle.kinds.specs.Names.{Target}
 use Rattle.kinds.specs.declared.Operation.{Operation}
 use Rattle.kinds.specs.declared.Single.TheVariants.{Open, Trace, Close, Local, Hold, Drop}
-use Rattle.kinds.specs.declared.Verdict.TheVariants.{Accepted}
+use Rattle.kinds.specs.Answers.{allowed}
 use Rattle.model.specs.Image.{Image, Key, head, flag, state, payload, phase, count, allowance, get, put, place_of, refer, release, Holder, an_anchor, a_field}
 use Rattle.model.specs.Acts.{Act, commit, single, local_bits, free_but, local_up, is_open, mark, mark_word, store, born, perform, unclean, allow, open_up, finish, trace_one, clear, shut, close_up, apply}
 use Rattle.model.specs.Judge.{judge}
@@ -125,7 +125,7 @@ module _ (P S : ℕ) (limits : Limits P S) (x : Image) where
       stay z i li q true = q
       stay z i li q false = made_clear z i li q
 
-  pub made : (a : Act) → judge P S x a ≡ Accepted → Linked P S x → From (apply P S x a)
+  pub made : (a : Act) → judge P S x a ≡ allowed → Linked P S x → From (apply P S x a)
   unfolding judge apply perform
   made (commit os) j w = commit_keeps P S From made_perform x 1 os (check_true _ _ _ _ j).1 as_is
   made (single Open) j w = made_open w

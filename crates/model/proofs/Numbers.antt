@@ -10,16 +10,17 @@ use Rattle.kinds.specs.declared.Operation.{Operation}
 use Rattle.kinds.specs.declared.Operation.TheVariants.{New, Set, Val, Root}
 use Rattle.kinds.specs.declared.Refusal.{Refusal}
 use Rattle.kinds.specs.declared.Single.TheVariants.{Open, Trace, Close, Local, Hold, Drop}
-use Rattle.kinds.specs.declared.Verdict.{Verdict}
-use Rattle.kinds.specs.declared.Verdict.TheVariants.{Accepted, Refused}
+use Rattle.kinds.specs.Answers.{Verdict}
+use Rattle.std.specs.Prelude.{Ok, Err}
+use Rattle.kinds.specs.Answers.{allowed}
 use Rattle.model.specs.Image.{Image}
 use Rattle.model.specs.Acts.{Act, commit, single, perform}
 use Rattle.model.specs.Judge.{check, and_then, judge, judge_op, judge_ops, judge_format, judge_outlist, judge_name}
 
 -- accepted, or refused with a number from lo to hi
 pub data Among (lo hi : ℕ) : Verdict → Type 0 where
-  accepted : Among lo hi Accepted
-  numbered : (r : Refusal) → lo ≤ r.number → r.number ≤ hi → Among lo hi (Refused r)
+  accepted : Among lo hi allowed
+  numbered : (r : Refusal) → lo ≤ r.number → r.number ≤ hi → Among lo hi (Err r)
 
 module _ {lo hi : ℕ} where
   pub check_among : (b : Bool) (n e : ℕ) (v : Verdict) → lo ≤ n → n ≤ hi → Among lo hi v → Among lo hi (check b n e v)
@@ -29,12 +30,12 @@ module _ {lo hi : ℕ} where
 
   then_among : (u v : Verdict) → Among lo hi u → Among lo hi v → Among lo hi (and_then u v)
   unfolding and_then
-  then_among Accepted v h k = k
-  then_among (Refused r) v h k = h
+  then_among (Ok _) v h k = k
+  then_among (Err r) v h k = h
 
   pub among_wider : (low high : ℕ) (v : Verdict) → low ≤ lo → hi ≤ high → Among lo hi v → Among low high v
-  among_wider low high Accepted l h accepted = accepted
-  among_wider low high (Refused _) l h (numbered r a b) = numbered r (omega arith) (omega arith)
+  among_wider low high (Ok _) l h accepted = accepted
+  among_wider low high (Err _) l h (numbered r a b) = numbered r (omega arith) (omega arith)
 
   pub among_number : {k e : ℕ} → Among lo hi (refuse k e) → (lo ≤ k) × (k ≤ hi)
   among_number (numbered r a b) = (a, b)

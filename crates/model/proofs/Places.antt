@@ -6,7 +6,7 @@ use native.Mathlib.Omega.{arith}
 use native.Mathlib.Nat.{div-lt_iff_lt-mul, mul-add-div_right, div-eq_of_lt, div-add-mod', mod-lt, mul-le-mul_right, add-zero}
 use Rattle.kinds.specs.Names.{radix, word_of}
 use Rattle.kinds.specs.declared.Name.{Name}
-use Rattle.kinds.specs.declared.Target.TheVariants.{Nothing, Object}
+use Rattle.std.specs.Prelude.{None, Some}
 use Rattle.model.specs.Image.{place, place_of, part_of}
 
 module _ (P S : ℕ) (some_slot : 0 < S) where
@@ -34,11 +34,11 @@ module _ (S p j : ℕ) (some_slot : 0 < S) where
   part_row e = let s = slot_of p S some_slot j p e in (omega (arith, s.2), omega (arith, s.1, s.2))
 
 -- words of targets
-pub word_none : word_of Nothing ≡ 0
+pub word_none : word_of None ≡ 0
 unfolding word_of
 word_none = refl
 
-pub place_word : (S : ℕ) (q : Name) → q.slot.0 < radix → place_of S (word_of (Object q)) ≡ place S q
+pub place_word : (S : ℕ) (q : Name) → q.slot.0 < radix → place_of S (word_of (Some q)) ≡ place S q
 unfolding place_of word_of
 place_word S q l =
     let w : ℕ = q.partition.0 * radix + q.slot.0 + 1 in

@@ -16,7 +16,7 @@ use Rattle.loops.proofs.Turns.{every_fails}
 use Rattle.loops.proofs.Walks.{first_some, first_none, tally_none_pass}
 use Rattle.kinds.specs.Names.{partition, roots}
 use Rattle.kinds.specs.declared.Single.TheVariants.{Trace, Close}
-use Rattle.kinds.specs.declared.Verdict.TheVariants.{Accepted}
+use Rattle.kinds.specs.Answers.{allowed}
 use Rattle.model.specs.Image.{Image, root, flag, count, get}
 use Rattle.model.specs.Acts.{single, not_clean, trace_one, apply}
 use Rattle.model.specs.Judge.{rooted, lowest, judge}
@@ -27,7 +27,7 @@ use Rattle.model.proofs.Bound.{Counted, trace_other, counted_trace}
 -- the lowest partition that is not clean is traced, again and again, until all are clean: the partitions in this order, and the heap that is left
 pub data LowestFirst (P S : ℕ) : Image → List ℕ → Image → Type 0 where
   all_clean : {y : Image} → not_clean P y ≡ 0 → LowestFirst P S y [] y
-  tracing : {y z : Image} {ps : List ℕ} → not_clean P y ≢ 0 → judge P S y (single (Trace (partition (lowest P y)))) ≡ Accepted → LowestFirst P S (apply P S y (single (Trace (partition (lowest P y))))) ps z
+  tracing : {y z : Image} {ps : List ℕ} → not_clean P y ≢ 0 → judge P S y (single (Trace (partition (lowest P y)))) ≡ allowed → LowestFirst P S (apply P S y (single (Trace (partition (lowest P y))))) ps z
       → LowestFirst P S y (lowest P y ∷ ps) z
 
 -- a phase on y that can be ended with at most n traces in all
@@ -36,7 +36,7 @@ pub record Ends (P S n : ℕ) (y : Image) : Type 0 where
   pub heap : Image
   pub lowest_first : LowestFirst P S y order heap
   pub few : get y count + length order ≤ n
-  pub closable : rooted y ≡ true → judge P S heap (single Close) ≡ Accepted
+  pub closable : rooted y ≡ true → judge P S heap (single Close) ≡ allowed
 
 -- where a partition is not clean, the lowest is one
 pub lowest_unclean : (P : ℕ) (y : Image) → not_clean P y ≢ 0 → (lowest P y < P) × (get y (flag (lowest P y)) ≡ 0)

@@ -12,7 +12,7 @@ use Rattle.kinds.specs.Names.{most_partitions, most_slots}
 use Rattle.kinds.specs.declared.Operation.{Operation}
 use Rattle.kinds.specs.declared.Partition.{Partition}
 use Rattle.kinds.specs.declared.Single.TheVariants.{Open, Trace, Close, Local, Hold, Drop}
-use Rattle.kinds.specs.declared.Verdict.TheVariants.{Accepted}
+use Rattle.kinds.specs.Answers.{allowed}
 use Rattle.model.specs.Image.{Image, flag, phase, count, addr, get, blank}
 use Rattle.model.specs.Acts.{Act, commit, single, local_bits, local_up, is_open, perform, apply}
 use Rattle.model.specs.Judge.{led, judge}
@@ -48,21 +48,21 @@ module _ (P S : ℕ) (limits : Limits P S) where
       record { linked = sound_linked P S x s; plain = (s.shut (omega arith)).unmarked }
 
   -- what the passed checks of an accepted trace and an accepted close tell
-  pub traced_is : (x : Image) (p : Partition) → judge P S x (single (Trace p)) ≡ Accepted → (is_open x ≡ true) × (p.0 < P) × (get x (flag p.0) ≡ 0)
+  pub traced_is : (x : Image) (p : Partition) → judge P S x (single (Trace p)) ≡ allowed → (is_open x ≡ true) × (p.0 < P) × (get x (flag p.0) ≡ 0)
   unfolding judge
   traced_is x p j =
       let a = check_true _ _ _ _ j in
       let b = check_true _ _ _ _ a.1 in
       (a.0, ltb-true _ _ b.0, eqb-true _ _ (check_true _ _ _ _ b.1).0)
 
-  pub closed_is : (x : Image) → judge P S x (single Close) ≡ Accepted → (is_open x ≡ true) × (led P S x ≡ true)
+  pub closed_is : (x : Image) → judge P S x (single Close) ≡ allowed → (is_open x ≡ true) × (led P S x ≡ true)
   unfolding judge
   closed_is x j =
       let a = check_true _ _ _ _ j in
       let b = check_true _ _ _ _ (check_true _ _ _ _ a.1).1 in
       (a.0, (check_true _ _ _ _ b.1).0)
 
-  pub opened_is : (x : Image) → judge P S x (single Open) ≡ Accepted → is_open x ≡ false
+  pub opened_is : (x : Image) → judge P S x (single Open) ≡ allowed → is_open x ≡ false
   unfolding judge
   opened_is x j = not-true _ (check_true _ _ _ _ j).0
 
@@ -70,7 +70,7 @@ module _ (P S : ℕ) (limits : Limits P S) where
   heap_perform x o g (inl e) = inl (perform_head P S limits x o 2 (omega arith) g ∙ e)
   heap_perform x o g (inr ph) = inr (phase_perform P S limits x o g ph)
 
-  heap_keeps : (x : Image) (a : Act) → judge P S x a ≡ Accepted → SoundAt P S x → Heap x → Heap (apply P S x a)
+  heap_keeps : (x : Image) (a : Act) → judge P S x a ≡ allowed → SoundAt P S x → Heap x → Heap (apply P S x a)
   unfolding judge apply local_up perform
   heap_keeps x (commit os) j w h = commit_keeps P S Heap heap_perform x 1 os (check_true _ _ _ _ j).1 h
   heap_keeps x (single Open) j s h = inr (phase_open P S limits x (sound_linked P S x s))
@@ -88,7 +88,7 @@ module _ (P S : ℕ) (limits : Limits P S) where
     pub sound : SoundAt P S x
     pub heap : Heap x
 
-  pub act_keeps : (x : Image) (a : Act) → judge P S x a ≡ Accepted → Reached x → Reached (apply P S x a)
+  pub act_keeps : (x : Image) (a : Act) → judge P S x a ≡ allowed → Reached x → Reached (apply P S x a)
   act_keeps x a j g = record { sound = act_sound P S x a g.sound j; heap = heap_keeps x a j g.sound g.heap }
 
   pub run_reached : (x : Image) → Reached x → (acts : List Act) (y : Image) → Run P S x acts y → Reached y
@@ -101,7 +101,7 @@ module _ (P S : ℕ) (limits : Limits P S) where
   reached acts y r = run_reached (blank P S) (record { sound = blank_sound P S (limits_back P S limits); heap = inl (blank_zero P S phase (omega arith)) }) acts y r
 
 -- what the code of an accepted trace asks for: its partition is one of P, and one trace more can be counted
-pub trace_ready : (P S : ℕ) (x : Image) (p : Partition) → SoundAt P S x → judge P S x (single (Trace p)) ≡ Accepted → (p.0 < P) × (get x count < 4294967295)
+pub trace_ready : (P S : ℕ) (x : Image) (p : Partition) → SoundAt P S x → judge P S x (single (Trace p)) ≡ allowed → (p.0 < P) × (get x count < 4294967295)
 trace_ready P S x p s j =
     let t = traced_is P S s.limits x p j in
     let h = s.opened (eqb-true _ _ t.0) in
@@ -109,6 +109,6 @@ trace_ready P S x p s j =
     (t.1, omega (arith, h.allowed, h.counted, s.limits.partitions_most, m))
 
 -- and that of an accepted local collection
-pub local_ready : (P S : ℕ) (x : Image) (p : Partition) → judge P S x (single (Local p)) ≡ Accepted → p.0 < P
+pub local_ready : (P S : ℕ) (x : Image) (p : Partition) → judge P S x (single (Local p)) ≡ allowed → p.0 < P
 unfolding judge
 local_ready P S x p j = ltb-true p.0 P (check_true _ _ _ _ j).0

@@ -17,8 +17,9 @@ use Rattle.kinds.specs.declared.Operation.{Operation}
 use Rattle.kinds.specs.declared.Operation.TheVariants.{New, Set, Val, Root}
 use Rattle.kinds.specs.declared.Partition.{Partition}
 use Rattle.kinds.specs.declared.Single.TheVariants.{Open, Trace, Close, Local, Hold, Drop}
-use Rattle.kinds.specs.declared.Verdict.{Verdict}
-use Rattle.kinds.specs.declared.Verdict.TheVariants.{Accepted, Refused}
+use Rattle.kinds.specs.Answers.{Verdict}
+use Rattle.std.specs.Prelude.{Ok, Err}
+use Rattle.kinds.specs.Answers.{allowed}
 use Rattle.model.specs.Image.{Image, Key, anchor, flag, state, field, count, allowance, anchors, get, place_of, part_of, an_anchor, a_field}
 use Rattle.model.specs.Acts.{Act, commit, single, marked, is_open, perform, not_clean}
 use Rattle.model.specs.Judge.{check, and_then, judge_op, judge_ops, rooted, leads_on, led, judge_name, judge}
@@ -29,22 +30,22 @@ use Rattle.model.proofs.Reaching.{Heap, is_open_lem}
 
 -- an answer other than 15 and 16
 Mild : Verdict → Type 0
-Mild Accepted = Unit {0}
-Mild (Refused r) = (r.number ≢ 15) × (r.number ≢ 16)
+Mild (Ok _) = Unit {0}
+Mild (Err r) = (r.number ≢ 15) × (r.number ≢ 16)
 
 check_mild : (b : Bool) (n e : ℕ) (v : Verdict) → n < 15 → (b ≡ true → Mild v) → Mild (check b n e v)
 unfolding check Mild
 check_mild true n e v l h = h refl
 check_mild false n e v l h = ((λ q. omega arith), (λ q. omega arith))
 
-pass_mild : (b : Bool) (n e : ℕ) → b ≡ true → Mild (check b n e Accepted)
+pass_mild : (b : Bool) (n e : ℕ) → b ≡ true → Mild (check b n e allowed)
 unfolding check Mild
 pass_mild b n e q = rw q tt
 
 then_mild : (u v : Verdict) → Mild u → Mild v → Mild (and_then u v)
 unfolding and_then
-then_mild Accepted v h k = k
-then_mild (Refused r) v h k = h
+then_mild (Ok _) v h k = k
+then_mild (Err r) v h k = h
 
 op_mild : (P S : ℕ) (x : Image) (e : ℕ) (o : Operation) → Mild (judge_op P S x e o)
 unfolding judge_op Mild
@@ -75,7 +76,7 @@ module _ (P S : ℕ) (x : Image) (e : rooted x ≡ false) where
   unfolding judge check
   rootless_opening = rw e (go (is_open x))
     where
-      go : (b : Bool) → check (not b) 11 0 (check false 12 0 Accepted) ≡ cond b (refuse 11 0) (refuse 12 0)
+      go : (b : Bool) → check (not b) 11 0 (check false 12 0 allowed) ≡ cond b (refuse 11 0) (refuse 12 0)
       go true = refl
       go false = refl
 
@@ -110,12 +111,12 @@ module _ (P S : ℕ) (limits : Limits P S) where
       go i l false e = refl
 
   -- any partition that is not clean can be traced
-  pub can_trace : (x : Image) (p : Partition) → Phase P S x → p.0 < P → get x (flag p.0) ≡ 0 → judge P S x (single (Trace p)) ≡ Accepted
+  pub can_trace : (x : Image) (p : Partition) → Phase P S x → p.0 < P → get x (flag p.0) ≡ 0 → judge P S x (single (Trace p)) ≡ allowed
   unfolding judge check
   can_trace x p ph l f = rw (open_true P S limits x ph, lt-ltb p.0 P l, f, room x p.0 ph l f)
 
   -- and when all are clean and a root is in use, the phase can close
-  pub can_close : (x : Image) → Phase P S x → not_clean P x ≡ 0 → rooted x ≡ true → judge P S x (single Close) ≡ Accepted
+  pub can_close : (x : Image) → Phase P S x → not_clean P x ≡ 0 → rooted x ≡ true → judge P S x (single Close) ≡ allowed
   unfolding judge check
   can_close x ph all r = rw (open_true P S limits x ph, r, all, marks_lead x ph all)
 

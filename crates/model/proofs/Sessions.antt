@@ -15,12 +15,12 @@ use Rattle.kinds.specs.Names.{roots, handles, session, word_of}
 use Rattle.kinds.specs.declared.Name.{Name}
 use Rattle.kinds.specs.declared.Handle.{Handle}
 use Rattle.kinds.specs.declared.Partition.{Partition}
-use Rattle.kinds.specs.declared.Target.{Target}
-use Rattle.kinds.specs.declared.Target.TheVariants.{Nothing, Object}
+use Rattle.kinds.specs.Names.{Target}
+use Rattle.std.specs.Prelude.{None, Some}
 use Rattle.kinds.specs.declared.Operation.{Operation}
 use Rattle.kinds.specs.declared.Single.{Single}
 use Rattle.kinds.specs.declared.Single.TheVariants.{Open, Trace, Close, Local, Hold, Drop}
-use Rattle.kinds.specs.declared.Verdict.TheVariants.{Accepted}
+use Rattle.kinds.specs.Answers.{allowed}
 use Rattle.model.specs.Image.{Image, Key, head, anchor, flag, state, payload, inlist, field, handle, get, place, place_of, an_anchor, a_field}
 use Rattle.model.specs.Spread.{start, step}
 use Rattle.model.specs.Acts.{Act, commit, single, is_open, store, perform, apply}
@@ -46,7 +46,7 @@ use Rattle.model.proofs.Reaching.{traced_is, local_ready}
 use Rattle.model.proofs.Effects.{performed, took, effect}
 
 -- the handle's word is no word of an operation whose root is one
-no_handle : (P S : ℕ) (x y : Image) (e : ℕ) (o : Operation) (h : ℕ) → judge_op P S y e o ≡ Accepted → (κ : Key) (v : ℕ) → Performs S x o κ v → κ ≡ handle h → ⊥
+no_handle : (P S : ℕ) (x y : Image) (e : ℕ) (o : Operation) (h : ℕ) → judge_op P S y e o ≡ allowed → (κ : Key) (v : ℕ) → Performs S x o κ v → κ ≡ handle h → ⊥
 unfolding judge_op
 no_handle P S x y e _ h j _ _ new_state q = let d : ◌≡◌ {A = ℕ} 3 1 = ap kind q in omega arith
 no_handle P S x y e _ h j _ _ new_payload q = let d : ◌≡◌ {A = ℕ} 4 1 = ap kind q in omega arith
@@ -119,7 +119,7 @@ pub handle_leads : {S : ℕ} {x : Image} (h : ℕ) → h < handles → (j : ℕ)
 handle_leads h l j (start n) = start (roots + h, omega arith, n)
 handle_leads h l j (step {i = i} c n) = step (handle_leads h l i c) n
 
-word_some : (q : Name) → word_of (Object q) ≢ 0
+word_some : (q : Name) → word_of (Some q) ≢ 0
 unfolding word_of
 word_some q e = omega arith
 
@@ -128,7 +128,7 @@ module _ (P S : ℕ) (x : Image) (s : SoundAt P S x) where
   w = sound_linked P S x s
 
   -- a commit leaves every handle
-  commit_stays : (h : ℕ) → h < handles → (os : List Operation) → judge P S x (commit os) ≡ Accepted → get (apply P S x (commit os)) (handle h) ≡ get x (handle h)
+  commit_stays : (h : ℕ) → h < handles → (os : List Operation) → judge P S x (commit os) ≡ allowed → get (apply P S x (commit os)) (handle h) ≡ get x (handle h)
   unfolding judge apply
   commit_stays h l os j =
       (judged_keeps P S (λ y. SoundAt P S y × (get y (handle h) ≡ get x (handle h)))
@@ -143,7 +143,7 @@ module _ (P S : ℕ) (x : Image) (s : SoundAt P S x) where
   unfolding apply
   open_stays h l = open_other P S s.limits x (handle h) (omega arith) refl refl ∙ (ready_anchors P S s.limits x w).holders (handle h) (an_anchor (omega arith))
 
-  trace_stays : (h : ℕ) → h < handles → (p : Partition) → judge P S x (single (Trace p)) ≡ Accepted → get (apply P S x (single (Trace p))) (handle h) ≡ get x (handle h)
+  trace_stays : (h : ℕ) → h < handles → (p : Partition) → judge P S x (single (Trace p)) ≡ allowed → get (apply P S x (single (Trace p))) (handle h) ≡ get x (handle h)
   unfolding apply
   trace_stays h l p j = trace_other P S s.limits x p.0 (traced_is P S s.limits x p j).1 w (handle h) (omega arith) (λ t. refl) (λ q. refl) refl
 
@@ -151,7 +151,7 @@ module _ (P S : ℕ) (x : Image) (s : SoundAt P S x) where
   unfolding apply
   close_stays h l = close_anchor P S s.limits x w (roots + h) (omega arith)
 
-  local_stays : (h : ℕ) → h < handles → (p : Partition) → judge P S x (single (Local p)) ≡ Accepted → get (apply P S x (single (Local p))) (handle h) ≡ get x (handle h)
+  local_stays : (h : ℕ) → h < handles → (p : Partition) → judge P S x (single (Local p)) ≡ allowed → get (apply P S x (single (Local p))) (handle h) ≡ get x (handle h)
   unfolding apply
   local_stays h l p j = local_anchor P S p.0 (local_ready P S x p j) x s (roots + h) (omega arith)
 
@@ -161,8 +161,8 @@ module _ (P S : ℕ) (x : Image) (s : SoundAt P S x) where
       ⊎_elim (λ v. absurd (takes_other h _ _ v.1 ne refl)) (λ d. d) ((took P S x g t s k).others (handle h) (omega arith) refl)
 
   -- the word of a handle that holds n stays that of n
-  pub act_retains : (h : Handle) (n : Name) (a : Act) → h.0 < handles → judge P S x a ≡ Accepted → Retains h n a → get x (handle h.0) ≡ word_of (Object n)
-      → get (apply P S x a) (handle h.0) ≡ word_of (Object n)
+  pub act_retains : (h : Handle) (n : Name) (a : Act) → h.0 < handles → judge P S x a ≡ allowed → Retains h n a → get x (handle h.0) ≡ word_of (Some n)
+      → get (apply P S x a) (handle h.0) ≡ word_of (Some n)
   unfolding apply
   act_retains h n (commit os) l j k e = commit_stays h.0 l os j ∙ e
   act_retains h n (single Open) l j k e = open_stays h.0 l ∙ e
@@ -172,22 +172,22 @@ module _ (P S : ℕ) (x : Image) (s : SoundAt P S x) where
   act_retains h n (single (Hold g m)) l j k e = go (ℕ_discrete g.0 h.0)
     where
       y : Image
-      y = store S x (handle g.0) (Object m)
+      y = store S x (handle g.0) (Some m)
 
-      go : Dec (g.0 ≡ h.0) → get y (handle h.0) ≡ word_of (Object n)
+      go : Dec (g.0 ≡ h.0) → get y (handle h.0) ≡ word_of (Some n)
       go (yes q) =
           ap (λ (c : ℕ). get y (handle c)) (sym q)
-          ∙ (took P S x g (Object m) s (good_hold P S x g m j)).written (handle g.0) _ (omega arith) takes
-          ∙ ap (λ (v : Name). word_of (Object v)) (k (ap session q))
-      go (no q) = take_stays h.0 l g (Object m) (good_hold P S x g m j) q ∙ e
-  act_retains h n (single (Drop g)) l j k e = take_stays h.0 l g Nothing (good_drop P S x g j) (λ q. k (ap session q)) ∙ e
+          ∙ (took P S x g (Some m) s (good_hold P S x g m j)).written (handle g.0) _ (omega arith) takes
+          ∙ ap (λ (v : Name). word_of (Some v)) (k (ap session q))
+      go (no q) = take_stays h.0 l g (Some m) (good_hold P S x g m j) q ∙ e
+  act_retains h n (single (Drop g)) l j k e = take_stays h.0 l g None (good_drop P S x g j) (λ q. k (ap session q)) ∙ e
 
   -- in a sound image, what a root or a handle leads to is in use
   pub leads_used : (j : ℕ) → Leads S x j → (j < P * S) × (get x (state j) ≢ 0)
   leads_used j (start n) = rw (← n.2.target) (w.refs (anchor n.0) (an_anchor n.1) n.2.some)
   leads_used j (step {i = i} c n) = rw (← n.2.target) (w.refs (field i n.0) (a_field (leads_used i c).0 n.1) n.2.some)
 
-  held : (h : Handle) (n : Name) → h.0 < handles → n.slot.0 < S → get x (handle h.0) ≡ word_of (Object n) → Held S h n x
+  held : (h : Handle) (n : Name) → h.0 < handles → n.slot.0 < S → get x (handle h.0) ≡ word_of (Some n) → Held S h n x
   held h n l b e =
       let first : Names S x (handle h.0) (place S n) =
       record { some = λ q. word_some n (sym e ∙ q); target = ap (place_of S) e ∙ place_word S n (omega (arith, s.limits.slots_most)) } in
@@ -199,16 +199,16 @@ module _ (P S : ℕ) (x : Image) (s : SoundAt P S x) where
       }
 
   -- a hold: its numbers are not too large, and the handle takes the object
-  pub hold_in : (h : Handle) (n : Name) → judge P S x (single (Hold h n)) ≡ Accepted → (h.0 < handles) × (n.partition.0 < P) × (n.slot.0 < S)
+  pub hold_in : (h : Handle) (n : Name) → judge P S x (single (Hold h n)) ≡ allowed → (h.0 < handles) × (n.partition.0 < P) × (n.slot.0 < S)
   unfolding judge judge_name
   hold_in h n j =
       let a = check_true _ _ _ _ j in
       let b = both_true (ltb n.partition.0 P) (ltb n.slot.0 S) (check_true _ _ _ _ a.1).0 in
       (ltb-true _ _ a.0, ltb-true _ _ b.0, ltb-true _ _ b.1)
 
-  hold_takes : (h : Handle) (n : Name) → judge P S x (single (Hold h n)) ≡ Accepted → get (apply P S x (single (Hold h n))) (handle h.0) ≡ word_of (Object n)
+  hold_takes : (h : Handle) (n : Name) → judge P S x (single (Hold h n)) ≡ allowed → get (apply P S x (single (Hold h n))) (handle h.0) ≡ word_of (Some n)
   unfolding apply
-  hold_takes h n j = let l = (hold_in h n j).0 in (took P S x h (Object n) s (good_hold P S x h n j)).written (handle h.0) _ (omega arith) takes
+  hold_takes h n j = let l = (hold_in h n j).0 in (took P S x h (Some n) s (good_hold P S x h n j)).written (handle h.0) _ (omega arith) takes
 
   -- an object in use stays so under an accepted operation, and no operation creates another at its place
   op_used : (j : ℕ) → j < P * S → (o : Operation) → Good P S x o → get x (state j) ≢ 0 → get (perform S x o) (state j) ≢ 0
@@ -223,7 +223,7 @@ module _ (P S : ℕ) (x : Image) (s : SoundAt P S x) where
   op_birth j before _ (good_val lp ls v) u = refl
   op_birth j before _ (good_root l m) u = refl
 
-commit_birth : (P S j : ℕ) → j < P * S → (x : Image) (e : ℕ) (os : List Operation) (before : List Step) → SoundAt P S x → judge_ops P S x e os ≡ Accepted → get x (state j) ≢ 0
+commit_birth : (P S j : ℕ) → j < P * S → (x : Image) (e : ℕ) (os : List Operation) (before : List Step) → SoundAt P S x → judge_ops P S x e os ≡ allowed → get x (state j) ≢ 0
     → birth S (push os before) j ≡ birth S before j
 unfolding judge_ops push
 commit_birth P S j l x e [] before s k u = refl
@@ -232,7 +232,7 @@ commit_birth P S j l x e (o ∷ os) before s k u =
     let g = good P S x e o a.0 in
     commit_birth P S j l (perform S x o) (e + 1) os (op o ∷ before) (holds_perform P S x o g s).sound a.1 (op_used P S x s j l o g u) ∙ op_birth P S x s j before o g u
 
-act_birth : (P S j : ℕ) → j < P * S → (x : Image) (a : Act) (acts : List Act) (before : List Step) → SoundAt P S x → judge P S x a ≡ Accepted → get x (state j) ≢ 0
+act_birth : (P S j : ℕ) → j < P * S → (x : Image) (a : Act) (acts : List Act) (before : List Step) → SoundAt P S x → judge P S x a ≡ allowed → get x (state j) ≢ 0
     → birth S (steps (a ∷ acts) before) j ≡ birth S (steps acts before) j
 unfolding judge steps birth
 act_birth P S j l x (commit os) acts before s k u = commit_birth P S j l x 1 os (steps acts before) s (check_true _ _ _ _ k).1 u
@@ -243,7 +243,7 @@ retaining_run still = still
 retaining_run (acted a r k) = acted a (retaining_run r) k.0
 
 -- FROM A HOLD ON, whatever acts are accepted, until one drops the handle or has it take another object
-module _ (P S : ℕ) (h : Handle) (n : Name) (x : Image) (sx : SoundAt P S x) (j : judge P S x (single (Hold h n)) ≡ Accepted) where
+module _ (P S : ℕ) (h : Handle) (n : Name) (x : Image) (sx : SoundAt P S x) (j : judge P S x (single (Hold h n)) ≡ allowed) where
   in_heap_lem : (h.0 < handles) × (n.partition.0 < P) × (n.slot.0 < S)
   in_heap_lem = hold_in P S x sx h n j
 
@@ -274,7 +274,7 @@ module _ (P S : ℕ) (x : Image) (s : SoundAt P S x) (j : ℕ) (c : Leads S x j)
         fields = λ k l. ⊎_elim (λ v. absurd (none _ _ v.1 tt)) (λ d. d) (a.others (field j k) (u.0, l) refl);
       }
 
-  pub spared : (a : Single) → judge P S x (single a) ≡ Accepted → Remains x (apply P S x (single a)) j
+  pub spared : (a : Single) → judge P S x (single a) ≡ allowed → Remains x (apply P S x (single a)) j
   unfolding apply
   spared Open k = remains (effect P S x (single Open) s k) opens_content opens_state
   spared (Trace p) k = remains (effect P S x (single (Trace p)) s k) traces_content traces_state

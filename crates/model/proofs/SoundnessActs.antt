@@ -15,11 +15,11 @@ use Rattle.loops.proofs.Tests.{lt_or_ge}
 use Rattle.loops.proofs.Loops.{each_keeps, tally_le}
 use Rattle.kinds.specs.Names.{radix, most_partitions, roots, word_of}
 use Rattle.kinds.specs.declared.Name.{Name}
-use Rattle.kinds.specs.declared.Target.{Target}
-use Rattle.kinds.specs.declared.Target.TheVariants.{Object}
+use Rattle.kinds.specs.Names.{Target}
+use Rattle.std.specs.Prelude.{Some}
 use Rattle.kinds.specs.declared.Operation.{Operation}
 use Rattle.kinds.specs.declared.Single.TheVariants.{Open, Trace, Close, Local, Hold, Drop}
-use Rattle.kinds.specs.declared.Verdict.TheVariants.{Accepted}
+use Rattle.kinds.specs.Answers.{allowed}
 use Rattle.model.specs.Image.{Image, Key, addr, blank, partitions, slots, head, anchor, flag, state, payload, inlist, field, phase, count, allowance, anchors, get, put, place, place_of, Holder, an_anchor, a_field}
 use Rattle.model.specs.Acts.{Act, commit, single, local_bits, local_up, marked, close_up, refers, target, own, foreign, mark, mark_word, perform, unmarked, unclean, mark_anchors, allow, open_up, inside, outside, finish, trace_one, apply}
 use Rattle.model.specs.Judge.{in_limits, led, judge}
@@ -41,11 +41,11 @@ use Rattle.model.proofs.Soundness.{limits_true, sound_true, sound_back, sound_no
 use Rattle.model.proofs.SoundnessMoves.{WordUsed, Body, Head, Holds, sound_of, sound_linked, sound_body, put_written, holds_self, holds_more, open_head, head_written, holds_flag, holds_mark, holds_mark_word, holds_payload, holds_store, holds_born, reference_place}
 
 -- the numbers of a name's word
-word_partition : (q : Name) → q.slot.0 < radix → (word_of (Object q) - 1) / radix ≡ q.partition.0
+word_partition : (q : Name) → q.slot.0 < radix → (word_of (Some q) - 1) / radix ≡ q.partition.0
 unfolding word_of
 word_partition q l = omega arith
 
-word_slot : (q : Name) → q.slot.0 < radix → (word_of (Object q) - 1) % radix ≡ q.slot.0
+word_slot : (q : Name) → q.slot.0 < radix → (word_of (Some q) - 1) % radix ≡ q.slot.0
 unfolding word_of
 word_slot q l = omega arith
 
@@ -275,7 +275,7 @@ module _ (P S : ℕ) where
         local_right = right_made (P * S) S (made_local P S s.limits x p l) (sized_length P S x s.length_agrees) s.right
 
   -- EVERY ACT
-  pub act_sound : (x : Image) (a : Act) → SoundAt P S x → judge P S x a ≡ Accepted → SoundAt P S (apply P S x a)
+  pub act_sound : (x : Image) (a : Act) → SoundAt P S x → judge P S x a ≡ allowed → SoundAt P S (apply P S x a)
   unfolding judge apply perform
   act_sound x (commit os) s j =
       commit_keeps P S (SoundAt P S) (λ y o g t. (holds_perform y o g t).sound) x 1 os (check_true _ _ _ _ j).1 s
@@ -299,17 +299,17 @@ module _ (P S : ℕ) where
   act_sound x (single (Drop h)) s j = (holds_perform x _ (good_drop P S x h j) s).sound
 
   -- words 0 and 1 stay
-  act_words : (x : Image) (a : Act) (h : ℕ) → h < 2 → SoundAt P S x → judge P S x a ≡ Accepted → get (apply P S x a) (head h) ≡ get x (head h)
+  act_words : (x : Image) (a : Act) (h : ℕ) → h < 2 → SoundAt P S x → judge P S x a ≡ allowed → get (apply P S x a) (head h) ≡ get x (head h)
   act_words x a h l s j = made_heading (P * S) S x (apply P S x a) h l (made P S s.limits x a j (sound_linked P S x s))
 
-  pub act_partitions : (x : Image) (a : Act) → SoundAt P S x → judge P S x a ≡ Accepted → get (apply P S x a) partitions ≡ get x partitions
+  pub act_partitions : (x : Image) (a : Act) → SoundAt P S x → judge P S x a ≡ allowed → get (apply P S x a) partitions ≡ get x partitions
   act_partitions x a s j = act_words x a 0 (omega arith) s j
 
-  pub act_slots : (x : Image) (a : Act) → SoundAt P S x → judge P S x a ≡ Accepted → get (apply P S x a) slots ≡ get x slots
+  pub act_slots : (x : Image) (a : Act) → SoundAt P S x → judge P S x a ≡ allowed → get (apply P S x a) slots ≡ get x slots
   act_slots x a s j = act_words x a 1 (omega arith) s j
 
 -- and so the test, with P and S as words 0 and 1
-pub act_passes : (x : Image) (a : Act) → is_sound x ≡ true → judge (get x partitions) (get x slots) x a ≡ Accepted
+pub act_passes : (x : Image) (a : Act) → is_sound x ≡ true → judge (get x partitions) (get x slots) x a ≡ allowed
     → is_sound (apply (get x partitions) (get x slots) x a) ≡ true
 act_passes x a e j =
     let P : ℕ = get x partitions in

@@ -10,7 +10,7 @@ use borrow.Author.Tests.{eqb-true}
 use Rattle.loops.specs.Loop.{both}
 use Rattle.loops.proofs.Tests.{both_true}
 use Rattle.kinds.specs.Names.{radix, most_partitions, word_of}
-use Rattle.kinds.specs.declared.Target.{Target}
+use Rattle.kinds.specs.Names.{Target}
 use Rattle.model.specs.Image.{Image, Key, head, anchor, flag, state, payload, inlist, field, phase, count, allowance, get, put, place_of, part_of, refer, Holder, an_anchor, a_field}
 use Rattle.model.specs.Acts.{is_open, mark, mark_word, store, born}
 use Rattle.model.specs.Sound.{Limits, NamesUsed, Free, Right, ShutHead, OpenHead, SoundAt}

@@ -6,12 +6,12 @@ use mathlib.Core.List.{List, [], ◌∷◌, ◌++◌}
 use native.Mathlib.Omega.{arith}
 use borrow.Author.Tests.{eqb-true, ltb-true}
 use Rattle.kinds.specs.declared.Handle.{Handle}
-use Rattle.kinds.specs.declared.Target.{Target}
-use Rattle.kinds.specs.declared.Target.TheVariants.{Nothing, Object}
+use Rattle.kinds.specs.Names.{Target}
+use Rattle.std.specs.Prelude.{None, Some}
 use Rattle.kinds.specs.declared.Operation.{Operation}
 use Rattle.kinds.specs.declared.Partition.{Partition}
 use Rattle.kinds.specs.declared.Single.TheVariants.{Open, Trace, Close, Local, Hold, Drop}
-use Rattle.kinds.specs.declared.Verdict.TheVariants.{Accepted}
+use Rattle.kinds.specs.Answers.{allowed}
 use Rattle.model.specs.Image.{Image, handle, phase, addr, get, blank}
 use Rattle.model.specs.Acts.{Act, commit, single, store, perform, apply}
 use Rattle.model.specs.Judge.{judge}
@@ -32,11 +32,11 @@ pub record InPhase (P S : ℕ) (history : List Act) (y : Image) : Type 0 where
   pub unclosed : Unclosed since
   pub x : Image
   pub before : Run P S (blank P S) earlier x
-  pub opens : judge P S x (single Open) ≡ Accepted
+  pub opens : judge P S x (single Open) ≡ allowed
   pub run : Run P S (apply P S x (single Open)) since y
 
 module _ (P S : ℕ) (limits : Limits P S) where
-  commit_phase : (y : Image) (os : List Operation) → judge P S y (commit os) ≡ Accepted → get (apply P S y (commit os)) phase ≡ get y phase
+  commit_phase : (y : Image) (os : List Operation) → judge P S y (commit os) ≡ allowed → get (apply P S y (commit os)) phase ≡ get y phase
   unfolding judge apply
   commit_phase y os j =
       commit_keeps P S (λ z. get z phase ≡ get y phase) (λ z o g e. perform_head P S limits z o 2 (omega arith) g ∙ e) y 1 os (check_true _ _ _ _ j).1 refl
@@ -45,7 +45,7 @@ module _ (P S : ℕ) (limits : Limits P S) where
   unfolding apply
   closing_phase {acts} {y} r = close_phase P S limits y (sound_linked P S y (reached P S limits acts y r).sound)
 
-  local_phase : {acts : List Act} {y : Image} (p : Partition) → Run P S (blank P S) acts y → judge P S y (single (Local p)) ≡ Accepted → get (apply P S y (single (Local p))) phase ≡ get y phase
+  local_phase : {acts : List Act} {y : Image} (p : Partition) → Run P S (blank P S) acts y → judge P S y (single (Local p)) ≡ allowed → get (apply P S y (single (Local p))) phase ≡ get y phase
   unfolding judge apply
   local_phase {acts} {y} p r j = local_head P S p.0 (ltb-true p.0 P (check_true _ _ _ _ j).0) y (reached P S limits acts y r).sound 2 (omega arith)
 
@@ -58,7 +58,7 @@ module _ (P S : ℕ) (limits : Limits P S) where
   blank_shut = blank_zero P S phase (omega arith)
 
   -- a further act that closes nothing
-  further : {acts : List Act} {y : Image} (a : Act) → ((u : List Act) → Unclosed u → Unclosed (a ∷ u)) → judge P S y a ≡ Accepted → InPhase P S acts y
+  further : {acts : List Act} {y : Image} (a : Act) → ((u : List Act) → Unclosed u → Unclosed (a ∷ u)) → judge P S y a ≡ allowed → InPhase P S acts y
       → InPhase P S (a ∷ acts) (apply P S y a)
   further a f j o =
       record {
@@ -81,5 +81,5 @@ module _ (P S : ℕ) (limits : Limits P S) where
   in_phase (acted {y = y} (single (Trace p)) r j) e = further (single (Trace p)) (λ u c. c) j (in_phase r (eqb-true _ _ (traced_is P S limits y p j).0))
   in_phase (acted (single Close) r j) e = let z = closing_phase r in absurd (omega arith)
   in_phase (acted (single (Local p)) r j) e = further (single (Local p)) (λ u c. c) j (in_phase r (sym (local_phase p r j) ∙ e))
-  in_phase (acted {y = y} (single (Hold h n)) r j) e = further (single (Hold h n)) (λ u c. c) j (in_phase r (sym (take_phase y h (Object n) (good_hold P S y h n j)) ∙ e))
-  in_phase (acted {y = y} (single (Drop h)) r j) e = further (single (Drop h)) (λ u c. c) j (in_phase r (sym (take_phase y h Nothing (good_drop P S y h j)) ∙ e))
+  in_phase (acted {y = y} (single (Hold h n)) r j) e = further (single (Hold h n)) (λ u c. c) j (in_phase r (sym (take_phase y h (Some n) (good_hold P S y h n j)) ∙ e))
+  in_phase (acted {y = y} (single (Drop h)) r j) e = further (single (Drop h)) (λ u c. c) j (in_phase r (sym (take_phase y h None (good_drop P S y h j)) ∙ e))

@@ -2,8 +2,8 @@
 use Rattle.std.specs.Prelude.{ℕ, ◌+◌, ◌*◌, Bool, not, cond, List, [], ◌∷◌, eqb, replicate}
 use Rattle.loops.specs.Loop.{each, both, tally}
 use Rattle.kinds.specs.Names.{word_of, most_partitions}
-use Rattle.kinds.specs.declared.Target.{Target}
-use Rattle.kinds.specs.declared.Target.TheVariants.{Nothing, Object}
+use Rattle.kinds.specs.Names.{Target}
+use Rattle.std.specs.Prelude.{None, Some}
 use Rattle.kinds.specs.declared.Operation.{Operation}
 use Rattle.kinds.specs.declared.Operation.TheVariants.{New, Set, Val, Root}
 use Rattle.kinds.specs.declared.Single.{Single}
@@ -149,5 +149,5 @@ apply P S img (single Open) = open_up P S img
 apply P S img (single (Trace p)) = trace_one S p.0 img
 apply P S img (single Close) = close_up P S img
 apply P S img (single (Local p)) = local_up P S p.0 img
-apply P S img (single (Hold h n)) = store S img (handle h.0) (Object n)
-apply P S img (single (Drop h)) = store S img (handle h.0) Nothing
+apply P S img (single (Hold h n)) = store S img (handle h.0) (Some n)
+apply P S img (single (Drop h)) = store S img (handle h.0) None

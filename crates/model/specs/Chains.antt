@@ -3,7 +3,7 @@
 use Rattle.std.specs.Prelude.{ℕ, suc, ◌<◌, cond, List, [], ◌∷◌, ◌≡◌, ◌≢◌, eqb, length}
 use Rattle.kinds.specs.declared.Name.{Name}
 use Rattle.kinds.specs.declared.Handle.{Handle}
-use Rattle.kinds.specs.declared.Target.TheVariants.{Object}
+use Rattle.std.specs.Prelude.{Some}
 use Rattle.kinds.specs.declared.Operation.{Operation}
 use Rattle.kinds.specs.declared.Operation.TheVariants.{New, Set, Val, Root}
 use Rattle.kinds.specs.declared.Single.{Single}
@@ -86,11 +86,11 @@ pub data Since (base : List Step) : List Step → Step → List Step → Type 0 
 pub data Chain (S : ℕ) (x : Image) (base : List Step) (Taken : Step → List Step → Type 0) : ℕ → ℕ → Type 0 where
   from_anchor : {a j : ℕ} → a < anchors → Names S x (anchor a) j → Chain S x base Taken j (birth S base j)
   created : {n : Name} {v : ℕ} {e : List Step} → Taken (op (New n v)) e → Chain S x base Taken (place S n) (birth S (op (New n v) ∷ e) (place S n))
-  stored_field : {n q : Name} {k : ℕ} {e : List Step} → Taken (op (Set n k (Object q))) e → Chain S x base Taken (place S q) (birth S e (place S q))
-  stored_root : {r : ℕ} {q : Name} {e : List Step} → Taken (op (Root r (Object q))) e → Chain S x base Taken (place S q) (birth S e (place S q))
+  stored_field : {n q : Name} {k : ℕ} {e : List Step} → Taken (op (Set n k (Some q))) e → Chain S x base Taken (place S q) (birth S e (place S q))
+  stored_root : {r : ℕ} {q : Name} {e : List Step} → Taken (op (Root r (Some q))) e → Chain S x base Taken (place S q) (birth S e (place S q))
   stored_handle : {h : Handle} {q : Name} {e : List Step} → Taken (did (Hold h q)) e → Chain S x base Taken (place S q) (birth S e (place S q))
   along_held : {i k j : ℕ} → Chain S x base Taken i (birth S base i) → k < 4 → Names S x (field i k) j → Chain S x base Taken j (birth S base j)
-  along_stored : {n q : Name} {k : ℕ} {e : List Step} → Chain S x base Taken (place S n) (birth S e (place S n)) → Taken (op (Set n k (Object q))) e
+  along_stored : {n q : Name} {k : ℕ} {e : List Step} → Chain S x base Taken (place S n) (birth S e (place S n)) → Taken (op (Set n k (Some q))) e
       → Chain S x base Taken (place S q) (birth S e (place S q))
 
 -- the steps of a history up to an opening, and with the acts since

@@ -5,8 +5,8 @@ use Rattle.loops.specs.Loop.{both, tally}
 use Rattle.kinds.specs.Names.{most_partitions, word_of}
 use Rattle.kinds.specs.declared.Name.{Name}
 use Rattle.kinds.specs.declared.Handle.{Handle}
-use Rattle.kinds.specs.declared.Target.{Target}
-use Rattle.kinds.specs.declared.Target.TheVariants.{Nothing, Object}
+use Rattle.kinds.specs.Names.{Target}
+use Rattle.std.specs.Prelude.{None, Some}
 use Rattle.kinds.specs.declared.Operation.{Operation}
 use Rattle.kinds.specs.declared.Operation.TheVariants.{New, Set, Val, Root}
 use Rattle.kinds.specs.declared.Single.TheVariants.{Open, Trace, Close, Local, Hold, Drop}
@@ -37,9 +37,9 @@ pub record Leaves (n S : ℕ) (x : Image) (Writes : Key → ℕ → Type 0) (y :
 -- COMMIT: a set or a root stores a reference to the object q
 abbrev pub Stores : Operation → Name → Type 0
 Stores (New n v) q = ⊥
-Stores (Set n k t) q = t ≡ Object q
+Stores (Set n k t) q = t ≡ Some q
 Stores (Val n v) q = ⊥
-Stores (Root r t) q = t ≡ Object q
+Stores (Root r t) q = t ≡ Some q
 
 -- a phase is open, and the object q unmarked
 pub record Unmarked (S : ℕ) (x : Image) (q : Name) : Type 0 where
@@ -148,8 +148,8 @@ pub record Localized (P S p : ℕ) (x y : Image) : Type 0 where
 -- target was unmarked, its partition stops being clean
 pub data Takes (S : ℕ) (x : Image) (h : Handle) : Target → Key → ℕ → Type 0 where
   takes : {t : Target} → Takes S x h t (handle h.0) (word_of t)
-  marks_held : {q : Name} → Unmarked S x q → Takes S x h (Object q) (state (place S q)) 2
-  uncleans_held : {q : Name} → Unmarked S x q → Takes S x h (Object q) (flag q.partition.0) 0
+  marks_held : {q : Name} → Unmarked S x q → Takes S x h (Some q) (state (place S q)) 2
+  uncleans_held : {q : Name} → Unmarked S x q → Takes S x h (Some q) (flag q.partition.0) 0
 
 abbrev pub Took : ℕ → ℕ → Handle → Target → Image → Image → Type 0
 Took P S h t x y = Leaves (P * S) S x (Takes S x h t) y
@@ -172,5 +172,5 @@ Effect P S (single Open) x y = Opened P S x y
 Effect P S (single (Trace p)) x y = Traced P S p.0 x y
 Effect P S (single Close) x y = Closed P S x y
 Effect P S (single (Local p)) x y = Localized P S p.0 x y
-Effect P S (single (Hold h n)) x y = Took P S h (Object n) x y
-Effect P S (single (Drop h)) x y = Took P S h Nothing x y
+Effect P S (single (Hold h n)) x y = Took P S h (Some n) x y
+Effect P S (single (Drop h)) x y = Took P S h None x y

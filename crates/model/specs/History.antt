@@ -2,7 +2,7 @@
 use Rattle.std.specs.Prelude.{ℕ, ◌+◌, ◌*◌, Bool, not, List, [], ◌∷◌, ◌≡◌, eqb}
 use Rattle.loops.specs.Loop.{both, every, tally}
 use Rattle.kinds.specs.declared.Single.TheVariants.{Open, Trace, Close, Local, Hold, Drop}
-use Rattle.kinds.specs.declared.Verdict.TheVariants.{Accepted}
+use Rattle.kinds.specs.Answers.{allowed}
 use Rattle.model.specs.Image.{Image, Key, anchor, anchors, get, place_of}
 use Rattle.model.specs.Acts.{Act, commit, single, used, apply}
 use Rattle.model.specs.Judge.{judge}
@@ -14,7 +14,7 @@ pub data RunBy (P S : ℕ) (Ok : List Act → Image → Act → Type 0) (x : Ima
 
 -- each accepted
 abbrev pub Run : ℕ → ℕ → Image → List Act → Image → Type 0
-Run P S = RunBy P S (λ acts y a. judge P S y a ≡ Accepted)
+Run P S = RunBy P S (λ acts y a. judge P S y a ≡ allowed)
 
 -- the accepted traces of a history
 unfoldable pub traces : List Act → ℕ

@@ -3,9 +3,9 @@ use Rattle.std.specs.Prelude.{ℕ, ◌<◌, List, ◌≡◌, ◌≢◌}
 use Rattle.kinds.specs.Names.{word_of}
 use Rattle.kinds.specs.declared.Name.{Name}
 use Rattle.kinds.specs.declared.Handle.{Handle}
-use Rattle.kinds.specs.declared.Target.TheVariants.{Object}
+use Rattle.std.specs.Prelude.{Some}
 use Rattle.kinds.specs.declared.Single.TheVariants.{Open, Trace, Close, Local, Hold, Drop}
-use Rattle.kinds.specs.declared.Verdict.TheVariants.{Accepted}
+use Rattle.kinds.specs.Answers.{allowed}
 use Rattle.model.specs.Image.{Image, handle, state, payload, field, get, place}
 use Rattle.model.specs.Acts.{Act, commit, single}
 use Rattle.model.specs.Judge.{judge}
@@ -24,11 +24,11 @@ Retains h n (single (Drop g)) = g ≢ h
 
 -- y comes from x by accepted acts, the last first, none of which drops the handle h or has it take another object than n
 abbrev pub Retaining : ℕ → ℕ → Handle → Name → Image → List Act → Image → Type 0
-Retaining P S h n = RunBy P S (λ acts y a. (judge P S y a ≡ Accepted) × Retains h n a)
+Retaining P S h n = RunBy P S (λ acts y a. (judge P S y a ≡ allowed) × Retains h n a)
 
 -- the handle h holds the object n: its word names it, it is in use, and so is all that the handle leads to now
 pub record Held (S : ℕ) (h : Handle) (n : Name) (y : Image) : Type 0 where
-  pub word : get y (handle h.0) ≡ word_of (Object n)
+  pub word : get y (handle h.0) ≡ word_of (Some n)
   pub names : Names S y (handle h.0) (place S n)
   pub object : get y (state (place S n)) ≢ 0
   pub led : (j : ℕ) → LeadsFrom S y (handle h.0) j → get y (state j) ≢ 0

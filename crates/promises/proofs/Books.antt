@@ -8,7 +8,7 @@ use mathlib.Core.Path.{◌≡◌, sym, ap, ◌∙◌, subst}
 use mathlib.Core.List.{List, [], ◌∷◌, ◌++◌, append_assoc}
 use lib.ListN.{length, take, drop, replicate, length-append, length-replicate}
 use lib.Seq.{length-take-le, take-take, take-add, take_at, drop_at}
-use Rattle.kinds.specs.declared.Verdict.TheVariants.{Accepted}
+use Rattle.kinds.specs.Answers.{allowed}
 use Rattle.model.specs.Image.{Image, length_of, size}
 use Rattle.model.specs.Acts.{Act}
 use Rattle.lines.specs.Print.{Bytes}
@@ -92,7 +92,7 @@ pub book_keeps : {h : Rule} {acts : List Act} {img : Image} {from n : ℕ} {log 
 book_keeps b = record { replayed = reached (book_world b).1; log_at = log_at b }
 
 -- every accepted recovery of any bytes begins a book
-pub book_begins : (log : List ℕ) (len : ℕ) → Bytes log → (recover_of log len).verdict ≡ Accepted → (h : Rule) × (acts : List Act) × Book h acts (recover_of log len).image 0 (recover_of log len).kept log
+pub book_begins : (log : List ℕ) (len : ℕ) → Bytes log → (recover_of log len).verdict ≡ allowed → (h : Rule) × (acts : List Act) × Book h acts (recover_of log len).image 0 (recover_of log len).kept log
 book_begins log len b e = let a = any_bytes log len b e in (a.rule, a.acts, adopted log len a.kept)
 
 module _ {h : Rule} {acts : List Act} {img : Image} {from n : ℕ} {log : List ℕ} (book : Book h acts img from n log) (k : ℕ) (lo : length (heading_of h) ≤ k) (hi : k ≤ n) where

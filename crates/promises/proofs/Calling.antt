@@ -10,27 +10,25 @@ use lib.ListN.{length}
 use Rattle.kinds.specs.Answers.{refuse}
 use Rattle.kinds.specs.declared.Single.TheVariants.{Open, Trace, Close, Local, Hold, Drop}
 use Rattle.kinds.specs.declared.Refusal.{Refusal}
-use Rattle.kinds.specs.declared.Verdict.{Verdict}
-use Rattle.kinds.specs.declared.Verdict.TheVariants.{Accepted, Refused}
+use Rattle.kinds.specs.Answers.{Verdict}
+use Rattle.std.specs.Prelude.{Ok, Err}
+use Rattle.kinds.specs.Answers.{allowed}
 use Rattle.model.specs.Image.{Image, partitions, slots, get, length_of, blank}
-use Rattle.model.specs.Acts.{single}
-use Rattle.model.specs.Judge.{check, and_then, judge_format}
+use Rattle.model.specs.Acts.{commit, single}
+use Rattle.model.specs.Judge.{check, and_then, judge, judge_format}
 use Rattle.model.specs.Sound.{is_sound}
 use Rattle.writer.specs.Record.{record_of, newest, heading_of}
 use Rattle.writer.specs.Write.{splice}
-use Rattle.catalogue.specs.declared.Answer.TheVariants.{Done, Refused as NotDone}
-use Rattle.catalogue.specs.declared.Closing.TheVariants.{Refused as NotClosed}
-use Rattle.catalogue.specs.declared.Freeing.TheVariants.{Refused as NotFreed}
-use Rattle.catalogue.specs.Call.{Outcome, outcome, perform, judge_in, apply_in, judge_act, judge_commit, format_of, call_by, commit_of, closed, freed}
+use Rattle.catalogue.specs.Call.{Outcome, outcome, perform, judge_in, apply_in, judge_act, format_of, call_by, closed, freed}
 use Rattle.catalogue.proofs.Perform.{fully, Performed, did, left, performed}
-use Rattle.catalogue.proofs.Judged.{act_sound, act_judged, commit_sound, commit_judged}
+use Rattle.catalogue.proofs.Judged.{act_sound, act_judged}
 use Rattle.model.proofs.Numbers.{Among, accepted, numbered, act_among, format_among}
 use Rattle.promises.specs.Calls.{Call, commit_call, single_call, act_of, Made, answered, closed_up, freed_up, formatting, calling}
 
 -- a verdict that is not a refusal with the number k
 unfoldable pub Beside : ℕ → Verdict → Type 0
-Beside k Accepted = Unit {0}
-Beside k (Refused r) = r.number ≢ k
+Beside k (Ok _) = Unit {0}
+Beside k (Err r) = r.number ≢ k
 
 beside_check : (k : ℕ) (b : Bool) (n e : ℕ) (u : Verdict) → n ≢ k → Beside k u → Beside k (check b n e u)
 unfolding check Beside
@@ -39,45 +37,45 @@ beside_check k false n e u d h = d
 
 beside_then : (k : ℕ) (u v : Verdict) → Beside k u → Beside k v → Beside k (and_then u v)
 unfolding and_then Beside
-beside_then k Accepted v h i = i
-beside_then k (Refused r) v h i = h
+beside_then k (Ok _) v h i = i
+beside_then k (Err r) v h i = h
 
-beside_accepted : (k : ℕ) → Beside k Accepted
+beside_accepted : (k : ℕ) → Beside k allowed
 unfolding Beside
 beside_accepted k = tt
 
 pub beside_is : (k : ℕ) (u : Verdict) → ((e : ℕ) → u ≢ refuse k e) → Beside k u
 unfolding Beside
-beside_is k Accepted h = tt
-beside_is k (Refused r) h = λ e. h r.extra (ap (λ (n : ℕ). refuse n r.extra) e)
+beside_is k (Ok _) h = tt
+beside_is k (Err r) h = λ e. h r.extra (ap (λ (n : ℕ). refuse n r.extra) e)
 
-pub beside_not : (k : ℕ) (u : Verdict) (r : Refusal) → Beside k u → u ≡ Refused r → r.number ≢ k
+pub beside_not : (k : ℕ) (u : Verdict) (r : Refusal) → Beside k u → u ≡ Err r → r.number ≢ k
 unfolding Beside
 beside_not k u r h e = rw e at h
 
 -- as the numbers from lo to hi, where k is below them
 beside_among : (k lo hi : ℕ) (u : Verdict) → k < lo → Among lo hi u → Beside k u
 unfolding Beside
-beside_among k lo hi Accepted l accepted = tt
-beside_among k lo hi (Refused _) l (numbered r a b) = λ e. omega arith
+beside_among k lo hi (Ok _) l accepted = tt
+beside_among k lo hi (Err _) l (numbered r a b) = λ e. omega arith
 
 -- all that a call checks before 17
 abbrev pub judge_call : Image → Call → Verdict
-judge_call img (commit_call ops n) = judge_commit img ops n
+judge_call img (commit_call ops) = judge_act img (commit ops)
 judge_call img (single_call a) = judge_act img (single a)
 
 -- where its act's judge does not refuse with k, nor 1 and 6 are k, the call does not
 pub call_beside : (k : ℕ) (img : Image) (c : Call) → 1 ≢ k → 6 ≢ k → Beside k (judge_in img (act_of c)) → Beside k (judge_call img c)
-unfolding judge_commit judge_act
-call_beside k img (commit_call ops n) one six h = beside_check k _ 1 0 _ one (beside_check k _ 6 0 _ six h)
+unfolding judge_act judge
+call_beside k img (commit_call ops) one six h = beside_check k _ 1 0 _ one h
 call_beside k img (single_call a) one six h = beside_check k _ 1 0 _ one h
 
 call_numbers : (img : Image) (c : Call) → Beside 0 (judge_call img c)
 call_numbers img c = call_beside 0 img c (λ z. omega arith) (λ z. omega arith) (beside_among 0 6 16 _ (omega arith) (act_among (get img partitions) (get img slots) img (act_of c)))
 
 -- accepted, its act is accepted where it stands
-pub call_judged : (img : Image) (c : Call) → judge_call img c ≡ Accepted → (is_sound img ≡ true) × (judge_in img (act_of c) ≡ Accepted)
-call_judged img (commit_call ops n) e = (commit_sound img ops n e, commit_judged img ops n e)
+pub call_judged : (img : Image) (c : Call) → judge_call img c ≡ allowed → (is_sound img ≡ true) × (judge_in img (act_of c) ≡ allowed)
+call_judged img (commit_call ops) e = (act_sound img (commit ops) e, act_judged img (commit ops) e)
 call_judged img (single_call a) e = (act_sound img (single a) e, act_judged img (single a) e)
 
 -- the two ways
@@ -85,8 +83,8 @@ abbrev made : ℕ → ℕ → Image → List ℕ → Made
 made k n img log = record { number = k; length = n; image = img; log = log }
 
 pub data Ways (u : Verdict) (bytes : List ℕ) (next img : Image) (log : List ℕ) (at : ℕ) : Made → Type 0 where
-  done : u ≡ Accepted → at + length bytes ≤ length log → Ways u bytes next img log at (made 0 (length bytes) next (splice log at bytes))
-  not_done : (r : Refusal) → fully u bytes log at ≡ Refused r → Ways u bytes next img log at (made r.number 0 img log)
+  done : u ≡ allowed → at + length bytes ≤ length log → Ways u bytes next img log at (made 0 (length bytes) next (splice log at bytes))
+  not_done : (r : Refusal) → fully u bytes log at ≡ Err r → Ways u bytes next img log at (made r.number 0 img log)
 
 -- whatever the form of its answer
 ways : {A : Type 0} (form : Outcome A → Made) (does : ℕ → A) (refuses : Refusal → A) (u : Verdict) (bytes : List ℕ) (next img : Image) (log : List ℕ) (at : ℕ)
@@ -102,18 +100,18 @@ ways {A} form does refuses u bytes next img log at d n = go (performed does refu
 format_ways : (img : Image) (P S : ℕ) (log : List ℕ) (at : ℕ)
     → Ways (judge_format P S (length_of img)) (heading_of (newest P S)) (blank P S) img log at (formatting img P S log at)
 unfolding format_of
-format_ways img P S log at = ways answered Done NotDone _ _ _ img log at (λ n y g. refl) (λ r y g. refl)
+format_ways img P S log at = ways answered Ok Err _ _ _ img log at (λ n y g. refl) (λ r y g. refl)
 
 pub call_ways : (img : Image) (c : Call) (log : List ℕ) (at : ℕ)
     → Ways (judge_call img c) (record_of (act_of c)) (apply_in img (act_of c)) img log at (calling img c log at)
-unfolding commit_of call_by
-call_ways img (commit_call ops n) log at = ways answered Done NotDone _ _ _ img log at (λ n y g. refl) (λ r y g. refl)
-call_ways img (single_call Open) log at = ways answered Done NotDone _ _ _ img log at (λ n y g. refl) (λ r y g. refl)
-call_ways img (single_call (Trace p)) log at = ways answered Done NotDone _ _ _ img log at (λ n y g. refl) (λ r y g. refl)
-call_ways img (single_call Close) log at = ways closed_up (closed img) NotClosed _ _ _ img log at (λ n y g. refl) (λ r y g. refl)
-call_ways img (single_call (Local p)) log at = ways freed_up (freed img p) NotFreed _ _ _ img log at (λ n y g. refl) (λ r y g. refl)
-call_ways img (single_call (Hold h n)) log at = ways answered Done NotDone _ _ _ img log at (λ n y g. refl) (λ r y g. refl)
-call_ways img (single_call (Drop h)) log at = ways answered Done NotDone _ _ _ img log at (λ n y g. refl) (λ r y g. refl)
+unfolding call_by
+call_ways img (commit_call ops) log at = ways answered Ok Err _ _ _ img log at (λ n y g. refl) (λ r y g. refl)
+call_ways img (single_call Open) log at = ways answered Ok Err _ _ _ img log at (λ n y g. refl) (λ r y g. refl)
+call_ways img (single_call (Trace p)) log at = ways answered Ok Err _ _ _ img log at (λ n y g. refl) (λ r y g. refl)
+call_ways img (single_call Close) log at = ways closed_up (closed img) Err _ _ _ img log at (λ n y g. refl) (λ r y g. refl)
+call_ways img (single_call (Local p)) log at = ways freed_up (freed img p) Err _ _ _ img log at (λ n y g. refl) (λ r y g. refl)
+call_ways img (single_call (Hold h n)) log at = ways answered Ok Err _ _ _ img log at (λ n y g. refl) (λ r y g. refl)
+call_ways img (single_call (Drop h)) log at = ways answered Ok Err _ _ _ img log at (λ n y g. refl) (λ r y g. refl)
 
 -- 17 is not 0 either
 pub fully_beside : (k : ℕ) (u : Verdict) (bytes log : List ℕ) (at : ℕ) → 17 ≢ k → Beside k u → Beside k (fully u bytes log at)
@@ -121,7 +119,7 @@ fully_beside k u bytes log at ne h = beside_then k u _ h (beside_check k _ 17 0 
 
 -- an accepted call, whole
 pub record Accepting (u : Verdict) (bytes : List ℕ) (next : Image) (log : List ℕ) (at : ℕ) (m : Made) : Type 0 where
-  pub judged : u ≡ Accepted
+  pub judged : u ≡ allowed
   pub room : at + length bytes ≤ length log
   pub image_is : m.image ≡ next
   pub length_is : m.length ≡ length bytes

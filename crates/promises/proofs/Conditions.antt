@@ -14,8 +14,8 @@ use Rattle.loops.proofs.Walks.{first_below}
 use Rattle.loops.proofs.Loops.{every_true, every_so, every_false}
 use Rattle.kinds.specs.Names.{most_partitions, most_slots, roots}
 use Rattle.kinds.specs.declared.Name.{Name}
-use Rattle.kinds.specs.declared.Target.{Target}
-use Rattle.kinds.specs.declared.Target.TheVariants.{Nothing, Object}
+use Rattle.kinds.specs.Names.{Target}
+use Rattle.std.specs.Prelude.{None, Some}
 use Rattle.model.specs.Image.{Image, Key, anchor, root, flag, state, field, partitions, slots, phase, anchors, get, size, place, place_of, an_anchor as holds-anchor, a_field as holds-field}
 use Rattle.model.specs.Acts.{used, marked, is_open, not_clean}
 use Rattle.model.specs.Judge.{in_limits, in_heap, target_in_heap, target_used, rooted, leads_on, led, lowest}
@@ -96,8 +96,8 @@ pub test_name : (P S : ℕ) (n : Name) → Tests (in_heap P S n) (TooLarge P S n
 test_name P S n = test_both _ _ _ _ (test_lt n.partition.0 P) (test_lt n.slot.0 S)
 
 pub test_target : (P S : ℕ) (t : Target) → Tests (target_in_heap P S t) (TargetTooLarge P S t)
-test_target P S Nothing = record { fails = λ e. absurd (true≢false e); passes = λ e c. c }
-test_target P S (Object q) = test_name P S q
+test_target P S None = record { fails = λ e. absurd (true≢false e); passes = λ e c. c }
+test_target P S (Some q) = test_name P S q
 
 -- 8 and 9
 pub test_free : (S : ℕ) (img : Image) (n : Name) → Tests (not (used img (place S n))) (InUse S img n)
@@ -111,8 +111,8 @@ pub test_used : (S : ℕ) (img : Image) (n : Name) → Tests (used img (place S 
 test_used S img n = test_ne (get img (state (place S n))) 0
 
 pub test_target_used : (S : ℕ) (img : Image) (t : Target) → Tests (target_used S img t) (TargetNotInUse S img t)
-test_target_used S img Nothing = record { fails = λ e. absurd (true≢false e); passes = λ e c. c }
-test_target_used S img (Object q) = test_used S img q
+test_target_used S img None = record { fails = λ e. absurd (true≢false e); passes = λ e c. c }
+test_target_used S img (Some q) = test_used S img q
 
 -- 10 and 11
 pub test_open : (img : Image) → Tests (is_open img) (NotOpen img)

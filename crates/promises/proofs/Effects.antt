@@ -3,7 +3,7 @@
 -- Assumes nothing.
 use Prim.Native.Nat.{ℕ, ◌+◌, ◌*◌, ◌≤◌, ◌<◌}
 use mathlib.Core.Path.{◌≡◌, refl, sym, ap, ◌∙◌, subst}
-use mathlib.Core.Bool.{Bool, true, false, cond}
+use mathlib.Core.Bool.{Bool, true, false}
 use mathlib.Core.List.{List}
 use mathlib.Core.Logic.{◌≢◌, ⊎_elim}
 use native.Mathlib.Omega.{arith}
@@ -15,8 +15,9 @@ use Rattle.kinds.specs.declared.Name.{Name}
 use Rattle.kinds.specs.declared.Partition.{Partition}
 use Rattle.kinds.specs.declared.Refusal.{Refusal}
 use Rattle.kinds.specs.declared.Single.TheVariants.{Close, Local}
-use Rattle.kinds.specs.declared.Verdict.{Verdict}
-use Rattle.kinds.specs.declared.Verdict.TheVariants.{Accepted, Refused}
+use Rattle.kinds.specs.Answers.{Verdict}
+use Rattle.std.specs.Prelude.{Ok, Err}
+use Rattle.kinds.specs.Answers.{allowed}
 use Rattle.model.specs.Image.{Image, Key, head, anchor, flag, state, payload, inlist, field, is_count, partitions, slots, count, get, place, place_of, part_of, Holder}
 use Rattle.model.specs.Acts.{Act, single, apply}
 use Rattle.model.specs.Judge.{check, judge, judge_name}
@@ -31,10 +32,8 @@ use Rattle.model.proofs.Asking.{ask_so, ask_only}
 use Rattle.model.proofs.Collecting.{spares}
 use Rattle.model.proofs.Effects.{effect, effect_once}
 use Rattle.writer.specs.Record.{record_of}
-use Rattle.catalogue.specs.declared.Closing.TheVariants.{Closed, Refused as NotClosed}
-use Rattle.catalogue.specs.declared.Freeing.TheVariants.{Freed, Refused as NotFreed}
-use Rattle.catalogue.specs.declared.Asked.TheVariants.{Yes, No}
-use Rattle.catalogue.specs.Call.{perform, judge_act, judge_object, call_by, closed, close_of, freed as freedBy, local_of, asked, asked_of}
+use Rattle.catalogue.specs.Answers.{totals, yield}
+use Rattle.catalogue.specs.Call.{perform, judge_act, judge_object, call_by, closed, close_of, freed as freedBy, local_of, answered, asked_of}
 use Rattle.promises.specs.Calls.{Call, single_call, act_of, calling}
 use Rattle.promises.specs.Effects.{OfNoSlot, Exactly, Present, Led, Unled}
 use Rattle.promises.proofs.Calling.{call_judged, call_accepted}
@@ -56,17 +55,17 @@ module _ (img : Image) (c : Call) (log : List ℕ) (at : ℕ) (z : (calling img 
 
 -- what an accepted act's call answers, with its record's length
 answered_done : {A : Type 0} (done : ℕ → A) (refused : Refusal → A) (img : Image) (a : Act) (log : List ℕ) (at : ℕ)
-    → judge_act img a ≡ Accepted → at + length (record_of a) ≤ length log → (call_by done refused img a log at).answer ≡ done (length (record_of a))
+    → judge_act img a ≡ allowed → at + length (record_of a) ≤ length log → (call_by done refused img a log at).answer ≡ done (length (record_of a))
 unfolding call_by perform
 answered_done done refused img a log at j l = rw (j, le-leb _ _ l)
 
 -- CLOSE answers the record's length, the count, and the number of objects that it freed
 pub close_answers : (img : Image) (log : List ℕ) (at : ℕ) → (calling img (single_call Close) log at).number ≡ 0
-    → (close_of img log at).answer ≡ Closed (length (record_of (single Close))) (get img count) (freed (get img partitions * get img slots) img (close_of img log at).image)
+    → (close_of img log at).answer ≡ Ok (totals (length (record_of (single Close))) (get img count) (freed (get img partitions * get img slots) img (close_of img log at).image))
 close_answers img log at z =
     let m = call_accepted img (single_call Close) log at z in
-    answered_done (closed img) NotClosed img (single Close) log at m.judged m.room
-    ∙ ap (Closed (length (record_of (single Close))) (get img count)) (call_effect img (single_call Close) log at z).number
+    answered_done (closed img) Err img (single Close) log at m.judged m.room
+    ∙ ap (λ (n : ℕ). Ok (totals (length (record_of (single Close))) (get img count) n)) (call_effect img (single_call Close) log at z).number
 
 -- LOCAL, of partition p: what it writes is of a slot that p does not keep
 slot : Key → ℕ
@@ -101,11 +100,11 @@ module _ {S p : ℕ} {x : Image} where
 
 module _ (img : Image) (p : Partition) (log : List ℕ) (at : ℕ) (z : (calling img (single_call (Local p)) log at).number ≡ 0) where
   -- it answers the record's length, and the number of objects that it freed
-  pub local_answers : (local_of img p log at).answer ≡ Freed (length (record_of (single (Local p)))) (freed (get img partitions * get img slots) img (local_of img p log at).image)
+  pub local_answers : (local_of img p log at).answer ≡ Ok (yield (length (record_of (single (Local p)))) (freed (get img partitions * get img slots) img (local_of img p log at).image))
   local_answers =
       let m = call_accepted img (single_call (Local p)) log at z in
-      answered_done (freedBy img p) NotFreed img (single (Local p)) log at m.judged m.room
-      ∙ ap (Freed (length (record_of (single (Local p))))) (call_effect img (single_call (Local p)) log at z).number
+      answered_done (freedBy img p) Err img (single (Local p)) log at m.judged m.room
+      ∙ ap (λ (n : ℕ). Ok (yield (length (record_of (single (Local p)))) n)) (call_effect img (single_call (Local p)) log at z).number
 
   written : Leaves (get img partitions * get img slots) (get img slots) img (Localizes (get img slots) p.0 img) (calling img (single_call (Local p)) log at).image
   written = (call_effect img (single_call (Local p)) log at z).words
@@ -144,18 +143,12 @@ module _ (img : Image) (p : Partition) (log : List ℕ) (at : ℕ) (z : (calling
       subst (Spares (get img partitions) (get img slots) p.0 img) (sym m.image_is) (spares (get img partitions) (get img slots) p.0 l img (sound_true img j.0))
 
 -- ASK
-asked_yes : (u : Verdict) (b : Bool) → asked u b ≡ Yes → (u ≡ Accepted) × (b ≡ true)
-asked_yes Accepted true e = (refl, refl)
-asked_yes Accepted false e = absurd (let z : ◌≡◌ {A = ℕ} 0 1 = cc in omega arith)
-asked_yes (Refused r) b e = absurd (let z : ◌≡◌ {A = ℕ} 0 1 = cc in omega arith)
-
-asked_no : (u : Verdict) (b : Bool) → asked u b ≡ No → (u ≡ Accepted) × (b ≡ false)
-asked_no Accepted true e = absurd (let z : ◌≡◌ {A = ℕ} 0 1 = cc in omega arith)
-asked_no Accepted false e = (refl, refl)
-asked_no (Refused r) b e = absurd (let z : ◌≡◌ {A = ℕ} 0 1 = cc in omega arith)
+asked_so : (u : Verdict) (b c : Bool) → answered u b ≡ Ok c → (u ≡ allowed) × (b ≡ c)
+asked_so (Ok _) b c e = (refl, (cc))
+asked_so (Err r) b c e = absurd (let z : ◌≡◌ {A = ℕ} 0 1 = cc in omega arith)
 
 module _ (img : Image) (n : Name) where
-  pub judged_present : judge_object img n ≡ Accepted → Present img n
+  pub judged_present : judge_object img n ≡ allowed → Present img n
   unfolding judge_object judge_name
   judged_present j =
       let a = check_true _ _ _ _ j in
@@ -164,11 +157,11 @@ module _ (img : Image) (n : Name) where
       record { sound = sound_true img a.0; partition = ltb-true _ _ h.0; slot = ltb-true _ _ h.1; in_use = used_true img _ (check_true _ _ _ _ b.1).0 }
 
   module _ (h : Present img n) where
-    pub present_judged : judge_object img n ≡ Accepted
+    pub present_judged : judge_object img n ≡ allowed
     unfolding judge_object judge_name check
     present_judged = rw (sound_back img h.sound, lt-ltb _ _ h.partition, lt-ltb _ _ h.slot, used_back img _ h.in_use)
 
-    present_asked : asked_of img n ≡ cond (ask (get img partitions) (get img slots) img (place (get img slots) n)) Yes No
+    present_asked : asked_of img n ≡ Ok (ask (get img partitions) (get img slots) img (place (get img slots) n))
     unfolding asked_of
     present_asked = rw present_judged
 
@@ -183,18 +176,18 @@ module _ (img : Image) (n : Name) where
     asked_led e = ask_only (get img partitions) (get img slots) img present_refs (place (get img slots) n) e
 
   -- YES EXACTLY where a root or a handle leads to the object, NO EXACTLY where none does
-  pub ask_yes : Exactly (asked_of img n ≡ Yes) (Led img n)
+  pub ask_yes : Exactly (asked_of img n ≡ Ok true) (Led img n)
   unfolding asked_of
   ask_yes =
       record {
-        only = λ e. let a = asked_yes _ _ e in let h = judged_present a.0 in record { present = h; leads = asked_led h a.1 };
+        only = λ e. let a = asked_so _ _ _ e in let h = judged_present a.0 in record { present = h; leads = asked_led h a.1 };
         so = λ l. present_asked l.present ∙ rw (led_asked l.present l.leads);
       }
 
-  pub ask_no : Exactly (asked_of img n ≡ No) (Unled img n)
+  pub ask_no : Exactly (asked_of img n ≡ Ok false) (Unled img n)
   unfolding asked_of
   ask_no =
       record {
-        only = λ e. let a = asked_no _ _ e in let h = judged_present a.0 in record { present = h; none = λ l. clash (led_asked h l) a.1 };
+        only = λ e. let a = asked_so _ _ _ e in let h = judged_present a.0 in record { present = h; none = λ l. clash (led_asked h l) a.1 };
         so = λ l. present_asked l.present ∙ rw (is_false _ (λ e. l.none (asked_led l.present e)));
       }

@@ -6,7 +6,7 @@ use mathlib.Core.Bool.{true}
 use mathlib.Core.List.{List}
 use lib.Dec.{eqb}
 use Rattle.loops.proofs.Tests.{both_true}
-use Rattle.kinds.specs.declared.Verdict.TheVariants.{Accepted}
+use Rattle.kinds.specs.Answers.{allowed}
 use Rattle.model.specs.Image.{Image, partitions, slots, get, size, blank}
 use Rattle.model.specs.Acts.{Act, apply}
 use Rattle.model.specs.History.{Run}
@@ -27,16 +27,16 @@ reached_headed P S good r =
     record { partitions_are = k.partitions_same ∙ blank_partitions P S; slots_are = k.slots_same ∙ blank_slots P S }
 
 -- an accepted formatting has P and S in range
-pub format_limits : (P S n : ℕ) → judge_format P S n ≡ Accepted → in_limits P S ≡ true
+pub format_limits : (P S n : ℕ) → judge_format P S n ≡ allowed → in_limits P S ≡ true
 unfolding judge_format
 format_limits P S n e = (both_true (in_limits P S) (eqb n (size P S)) (check_true _ _ _ _ e).0).0
 
 -- an accepted call is an act accepted where it stands, and leaves what the act leaves
-call_acts : (P S : ℕ) (y : Image) (c : Call) → Headed P S y → judge_call y c ≡ Accepted → judge P S y (act_of c) ≡ Accepted
+call_acts : (P S : ℕ) (y : Image) (c : Call) → Headed P S y → judge_call y c ≡ allowed → judge P S y (act_of c) ≡ allowed
 call_acts P S y c h e = rw (h.partitions_are, h.slots_are) at (call_judged y c e).1
 
 pub call_leaves : (P S : ℕ) (y : Image) (c : Call) (log : List ℕ) (at : ℕ) → Headed P S y → (calling y c log at).number ≡ 0
-    → (judge P S y (act_of c) ≡ Accepted) × ((calling y c log at).image ≡ apply P S y (act_of c))
+    → (judge P S y (act_of c) ≡ allowed) × ((calling y c log at).image ≡ apply P S y (act_of c))
 call_leaves P S y c log at h z =
     let m = call_accepted y c log at z in
     (call_acts P S y c h m.judged, m.image_is ∙ rw (h.partitions_are, h.slots_are))

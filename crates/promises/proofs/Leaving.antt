@@ -12,12 +12,12 @@ use Rattle.kinds.specs.Answers.{refuse, blank_record, no_names}
 use Rattle.kinds.specs.declared.Name.{Name}
 use Rattle.kinds.specs.declared.Partition.{Partition}
 use Rattle.kinds.specs.declared.Operation.{Operation}
-use Rattle.kinds.specs.declared.Reason.TheVariants.{Refused as NotHeld}
+use Rattle.std.specs.Prelude.{Err}
 use Rattle.kinds.specs.declared.Refusal.{Refusal}
 use Rattle.kinds.specs.declared.Single.{Single}
 use Rattle.kinds.specs.declared.Single.TheVariants.{Open, Close, Local}
-use Rattle.kinds.specs.declared.Verdict.{Verdict}
-use Rattle.kinds.specs.declared.Verdict.TheVariants.{Accepted}
+use Rattle.kinds.specs.Answers.{Verdict}
+use Rattle.kinds.specs.Answers.{allowed}
 use Rattle.model.specs.Image.{Image}
 use Rattle.model.specs.Acts.{single}
 use Rattle.model.specs.Judge.{check}
@@ -28,23 +28,23 @@ use Rattle.lines.specs.Line.{tail_ok}
 use Rattle.writer.specs.Record.{terms_of}
 use Rattle.journal.specs.Recover.{Stand, early, going, stopped, reader, feed_all, refusal, recovery, at_end, answer, recover_of}
 use Rattle.catalogue.specs.Answers.{Said, refused_with, said, totals, said_closing, yield, said_freeing, said_listing, said_reading, said_asked}
-use Rattle.catalogue.specs.Call.{perform, judge_act, judge_commit, judge_foreign, judge_object, call_by, call_of, commit_of, close_of, local_of, listing_of, reading_of, asked_of, why_of}
+use Rattle.catalogue.specs.Call.{perform, judge_act, judge_foreign, judge_object, call_by, call_of, commit_of, close_of, local_of, listing_of, reading_of, asked_of, why_of}
 use Rattle.promises.specs.Rows.{Row, given, Found, telled, First, Unsound, NoRoot}
 use Rattle.promises.specs.Calls.{Call, single_call, calling}
 use Rattle.promises.proofs.Calling.{Refusing, refused_leaves}
 use Rattle.promises.proofs.Refusals.{act_first, close_first, local_first}
 
 -- A REFUSED RECOVERY LEAVES ZEROS and keeps nothing
-pub refused_recovery : (log : List ℕ) (len : ℕ) → (recover_of log len).verdict ≢ Accepted → ((recover_of log len).image ≡ replicate len 0) × ((recover_of log len).kept ≡ 0)
+pub refused_recovery : (log : List ℕ) (len : ℕ) → (recover_of log len).verdict ≢ allowed → ((recover_of log len).image ≡ replicate len 0) × ((recover_of log len).kept ≡ 0)
 unfolding recover_of answer
 refused_recovery log len ne = by (feed_all len (reader early [] 0) log).stand (feed_all len (reader early [] 0) log).part ne
   where
-    by : (s : Stand) (t : List ℕ) → (at_end len s t).verdict ≢ Accepted → ((at_end len s t).image ≡ replicate len 0) × ((at_end len s t).kept ≡ 0)
+    by : (s : Stand) (t : List ℕ) → (at_end len s t).verdict ≢ allowed → ((at_end len s t).image ≡ replicate len 0) × ((at_end len s t).kept ≡ 0)
     by early t ne = (refl, refl)
     by (stopped k l) t ne = (refl, refl)
     by (going h y w n kept) t ne = step (tail_ok (terms_of h).bytes t) ne
       where
-        step : (b : Bool) → (cond b (recovery kept y) (refusal len 4 (n + 1))).verdict ≢ Accepted
+        step : (b : Bool) → (cond b (recovery kept y) (refusal len 4 (n + 1))).verdict ≢ allowed
             → ((cond b (recovery kept y) (refusal len 4 (n + 1))).image ≡ replicate len 0) × ((cond b (recovery kept y) (refusal len 4 (n + 1))).kept ≡ 0)
         step true ne = absurd (ne refl)
         step false ne = (refl, refl)
@@ -54,7 +54,7 @@ abbrev unsound : Refusal
 unsound = record { number = 1; extra = 0 }
 
 pub record Refuses-1 (img : Image) : Type 0 where
-  pub commit : (ops : List Operation) (n : ℕ) (log : List ℕ) (at : ℕ) → said (commit_of img ops n log at).answer ≡ refused_with 0 unsound
+  pub commit : (ops : List Operation) (log : List ℕ) (at : ℕ) → said (commit_of img ops log at).answer ≡ refused_with 0 unsound
   -- open, trace, hold and drop
   pub act : (a : Single) (log : List ℕ) (at : ℕ) → said (call_of img (single a) log at).answer ≡ refused_with 0 unsound
   pub close : (log : List ℕ) (at : ℕ) → said_closing (close_of img log at).answer ≡ refused_with (totals 0 0 0) unsound
@@ -62,13 +62,13 @@ pub record Refuses-1 (img : Image) : Type 0 where
   pub outlist : (p : Partition) → said_listing (listing_of img p) ≡ refused_with no_names unsound
   pub read : (n : Name) → said_reading (reading_of img n) ≡ refused_with blank_record unsound
   pub ask : (n : Name) → said_asked (asked_of img n) ≡ refused_with false unsound
-  pub why : (n : Name) (words : List ℕ) → why_of img n words ≡ explained (NotHeld unsound) words
+  pub why : (n : Name) (words : List ℕ) → why_of img n words ≡ explained (Err unsound) words
 
 unsound_refused : (img : Image) → is_sound img ≡ false → Refuses-1 img
-unfolding commit_of call_by listing_of reading_of asked_of why_of judge_commit judge_act judge_foreign judge_object check perform
+unfolding call_by listing_of reading_of asked_of why_of judge_act judge_foreign judge_object check perform
 unsound_refused img e =
     record {
-      commit = λ ops n log at. rw e;
+      commit = λ ops log at. rw e;
       act = λ a log at. rw e;
       close = λ log at. rw e;
       local = λ p log at. rw e;

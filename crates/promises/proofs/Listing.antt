@@ -8,8 +8,8 @@ use mathlib.Core.Logic.{inl, inr, ⊎_elim}
 use lib.ListN.{length}
 use Rattle.kinds.specs.Answers.{refuse}
 use Rattle.kinds.specs.declared.Refusal.{Refusal}
-use Rattle.kinds.specs.declared.Verdict.{Verdict}
-use Rattle.kinds.specs.declared.Verdict.TheVariants.{Accepted}
+use Rattle.kinds.specs.Answers.{Verdict}
+use Rattle.kinds.specs.Answers.{allowed}
 use Rattle.model.specs.Image.{Image}
 use Rattle.model.specs.Judge.{check, and_then}
 use Rattle.catalogue.specs.Answers.{Said, accepted, refused_with}
@@ -22,7 +22,7 @@ pub record Tests (b : Bool) (C : Type 0) : Type 0 where
   pub fails : b ≡ false → C
   pub passes : b ≡ true → C → ⊥
 
-pub found_none : Found [] Accepted
+pub found_none : Found [] allowed
 unfolding Found
 found_none = refl
 
@@ -40,7 +40,7 @@ found_tell true n e u E rows s t f = inr (t refl, f)
 found_tell false n e u E rows s t f = inl (e, s refl, refl)
 
 -- one list, then another, which is looked at only where the first passes
-pub found_after : (rows more : List Row) (u w : Verdict) → Found rows u → (u ≡ Accepted → Found more w) → Found (rows ++ more) (and_then u w)
+pub found_after : (rows more : List Row) (u w : Verdict) → Found rows u → (u ≡ allowed → Found more w) → Found (rows ++ more) (and_then u w)
 unfolding Found and_then
 found_after [] more u w f g = rw f (g f)
 found_after (given n e C ∷ rows) more u w f g = ⊎_elim (λ x. inl (x.0, rw x.1)) (λ x. inr (x.0, found_after rows more u w x.1 g)) f

@@ -7,13 +7,11 @@ use contract.Lifetimes.{Lfts}
 use borrow.Fn.Kinds.{Dens, res_t, ended_of}
 use denote.Triple.Clauses.{AtExit}
 use Rattle.model.specs.Image.{Image}
-use Rattle.writer.specs.declared.Written.{Written}
 use Rattle.writer.specs.Write.{Wrote, wrote}
 use Rattle.journal.specs.Recover.{Recovered}
-use Rattle.recovery.specs.declared.Recovery.{Recovery}
-use Rattle.recovery.specs.declared.Recovery.TheVariants.{Kept, Refused as NotKept}
-use Rattle.kinds.specs.declared.Verdict.{Verdict}
-use Rattle.kinds.specs.declared.Verdict.TheVariants.{Accepted, Refused}
+use Rattle.recovery.specs.Answers.{Recovery, fault_from}
+use Rattle.kinds.specs.Answers.{Verdict}
+use Rattle.std.specs.Prelude.{Option, Ok, Err}
 use Rattle.recovery.specs.Answers.{out, byte_in}
 use Rattle.recovery.proofs.recover.Kinds as recover
 use Rattle.recovery.proofs.recover.Reads as recover-reads
@@ -35,17 +33,17 @@ pub record Once {A : Type 0} (a b : A) (x y : List ℕ) : Type 0 where
 
 -- recovery's answer and image can be read off what they mean, with the byte
 read_off : Verdict → ℕ → ℕ → Recovery
-read_off Accepted k b = Kept k
-read_off (Refused r) k b = NotKept r b
+read_off (Ok _) k b = Ok k
+read_off (Err r) k b = fault_from r b
 
 out_answer : (a : Recovery) (x : Image) → read_off (out a x).verdict (out a x).kept (byte_in a) ≡ a
 unfolding read_off
-out_answer (Kept k) x = refl
-out_answer (NotKept r b) x = refl
+out_answer (Ok k) x = refl
+out_answer (Err f) x = refl
 
 out_image : (a : Recovery) (x : Image) → (out a x).image ≡ x
-out_image (Kept k) x = refl
-out_image (NotKept r b) x = refl
+out_image (Ok k) x = refl
+out_image (Err f) x = refl
 
 out_once : (o : Recovered) (k : ℕ) (a b : Recovery) (x y : Image) → (out a x ≡ o) × (byte_in a ≡ k) → (out b y ≡ o) × (byte_in b ≡ k) → Once a b x y
 out_once o k a b x y p q =
@@ -60,7 +58,7 @@ pub recover_once : (κs : Lfts 2) (xs : Dens κs recover.ps) (a b : (res_t recov
     → recover-reads.Post κs xs a s → recover-reads.Post κs xs b t → Once a b s.0.now t.0.now
 recover_once κs xs a b s t p q = out_once _ _ _ _ _ _ p q
 
-wrote_once : (o : Wrote) (a b : Written) (x y : List ℕ) → wrote a x ≡ o → wrote b y ≡ o → Once a b x y
+wrote_once : (o : Wrote) (a b : Option ℕ) (x y : List ℕ) → wrote a x ≡ o → wrote b y ≡ o → Once a b x y
 wrote_once o a b x y p q =
     let e : wrote a x ≡ wrote b y = p ∙ sym q in
     record { answer = ap (λ (w : Wrote). w.answer) e; left = ap (λ (w : Wrote). w.log) e }
@@ -69,7 +67,7 @@ pub write_line_once : (κs : Lfts 1) (xs : Dens κs line.ps) (a b : (res_t line.
     → line-reads.Post κs xs a s → line-reads.Post κs xs b t → Once a b s.0.now t.0.now
 write_line_once κs xs a b s t p q = wrote_once _ _ _ _ _ p q
 
-pub write_commit_once : (κs : Lfts 1) (xs : Dens κs commit.ps) (a b : (res_t commit.r κs).Denot) (s t : AtExit (ended_of 1 commit.ps commit.r) κs)
+pub write_commit_once : (κs : Lfts 2) (xs : Dens κs commit.ps) (a b : (res_t commit.r κs).Denot) (s t : AtExit (ended_of 2 commit.ps commit.r) κs)
     → commit-reads.Post κs xs a s → commit-reads.Post κs xs b t → Once a b s.0.now t.0.now
 write_commit_once κs xs a b s t p q = wrote_once _ _ _ _ _ p q
 

@@ -9,18 +9,18 @@ use lib.ListN.{get_or}
 use lib.Seq.{ext_get_or}
 use borrow.Author.Tests.{ltb-true}
 use Rattle.loops.proofs.Tests.{eq_or_ne, lt_or_ge}
-use Rattle.kinds.proofs.Answers.{unlike}
 use Rattle.kinds.specs.declared.Outlist.{Outlist}
 use Rattle.kinds.specs.declared.Partition.{Partition}
-use Rattle.kinds.specs.declared.Verdict.{Verdict}
-use Rattle.kinds.specs.declared.Verdict.TheVariants.{Accepted, Refused}
+use Rattle.kinds.specs.Answers.{Verdict}
+use Rattle.std.specs.Prelude.{Ok, Err}
+use Rattle.kinds.specs.Answers.{allowed}
 use Rattle.model.specs.Image.{Image, partitions, slots, get}
 use Rattle.model.specs.Judge.{judge_outlist}
 use Rattle.model.specs.Outlist.{outlist, Outlisted}
 use Rattle.model.proofs.Committing.{check_true}
 use Rattle.model.proofs.Outlists.{outlisted}
 use Rattle.model.proofs.Soundness.{sound_true}
-use Rattle.catalogue.specs.Call.{judge_foreign, listing, listing_of}
+use Rattle.catalogue.specs.Call.{judge_foreign, answered, listing_of}
 
 -- two outlists of one partition: name by name
 module _ (S p : ℕ) (x : Image) where
@@ -59,26 +59,23 @@ module _ (S p : ℕ) (x : Image) where
           ext_get_or 0 a.names b.names (u.long ∙ sym v.long)
           (λ i l. ⊎_elim (λ q. (same_names a b u v (suc i) i (omega arith) q).1) (λ q. u.unused i q ∙ sym (v.unused i (omega (arith, number)))) (lt_or_ge i a.number))
 
-module _ (img : Image) (p : Partition) (z : (listing_of img p).verdict ≡ Accepted) where
+module _ (img : Image) (p : Partition) (o : Outlist) (z : listing_of img p ≡ Ok o) where
   -- accepted, it answers the list that computes
-  listed_is : (judge_foreign img p ≡ Accepted) × ((listing_of img p).outlist ≡ outlist (get img partitions) (get img slots) p.0 img)
+  listed_is : (judge_foreign img p ≡ allowed) × (o ≡ outlist (get img partitions) (get img slots) p.0 img)
   unfolding listing_of
   listed_is = by (judge_foreign img p) z
     where
-      o : Outlist
-      o = outlist (get img partitions) (get img slots) p.0 img
-
-      by : (u : Verdict) → (listing u o).verdict ≡ Accepted → (u ≡ Accepted) × ((listing u o).outlist ≡ o)
-      by Accepted e = (refl, refl)
-      by (Refused r) e = unlike e
+      by : (u : Verdict) → answered u (outlist (get img partitions) (get img slots) p.0 img) ≡ Ok o → (u ≡ allowed) × (o ≡ outlist (get img partitions) (get img slots) p.0 img)
+      by (Ok _) e = (refl, (cc))
+      by (Err r) e = absurd (let z : ◌≡◌ {A = ℕ} 0 1 = cc in omega arith)
 
   -- OUTLIST, accepted, lists the foreign names that p's objects hold
-  pub outlist_lists : Outlisted (get img slots) p.0 img (listing_of img p).outlist
+  pub outlist_lists : Outlisted (get img slots) p.0 img o
   unfolding judge_foreign judge_outlist
   outlist_lists =
       let a = check_true _ _ _ _ listed_is.0 in
       rw listed_is.1 (outlisted (get img partitions) (get img slots) p.0 (ltb-true _ _ (check_true _ _ _ _ a.1).0) img (sound_true img a.0))
 
   -- and it is the only one that is so
-  pub outlist_only : (o : Outlist) → Outlisted (get img slots) p.0 img o → o ≡ (listing_of img p).outlist
-  outlist_only o l = outlisted_once (get img slots) p.0 img o _ l outlist_lists
+  pub outlist_only : (q : Outlist) → Outlisted (get img slots) p.0 img q → q ≡ o
+  outlist_only q l = outlisted_once (get img slots) p.0 img q o l outlist_lists

@@ -17,8 +17,9 @@ use Rattle.kinds.specs.declared.Partition.{Partition}
 use Rattle.kinds.specs.declared.Refusal.{Refusal}
 use Rattle.kinds.specs.declared.Single.{Single}
 use Rattle.kinds.specs.declared.Single.TheVariants.{Trace, Close}
-use Rattle.kinds.specs.declared.Verdict.{Verdict}
-use Rattle.kinds.specs.declared.Verdict.TheVariants.{Accepted}
+use Rattle.kinds.specs.Answers.{Verdict}
+use Rattle.std.specs.Prelude.{Ok}
+use Rattle.kinds.specs.Answers.{allowed}
 use Rattle.model.specs.Image.{Image, partitions, phase, get, blank}
 use Rattle.model.specs.Acts.{Act, single, not_clean, apply}
 use Rattle.model.specs.History.{Run, acted}
@@ -33,8 +34,7 @@ use Rattle.model.proofs.Splitting.{in_phase}
 use Rattle.writer.specs.Record.{Rule, record_of}
 use Rattle.journal.specs.Log.{replay}
 use Rattle.journal.proofs.Demand.{replayed}
-use Rattle.catalogue.specs.declared.Answer.TheVariants.{Done, Refused as NotDone}
-use Rattle.catalogue.specs.declared.Closing.TheVariants.{Refused as NotClosed}
+use Rattle.std.specs.Prelude.{Err}
 use Rattle.catalogue.specs.Answers.{Said, accepted, refused_with, totals, said, said_closing}
 use Rattle.catalogue.specs.Call.{judge_act, call_by, trace_of, closed}
 use Rattle.catalogue.proofs.Perform.{fully, fully_done}
@@ -94,25 +94,25 @@ module _ (P S : ℕ) (good : in_limits P S ≡ true) where
     headed : Headed P S y
     headed = reached_headed P S good r
 
-    call_fine : (a : Act) → judge P S y a ≡ Accepted → judge_act y a ≡ Accepted
+    call_fine : (a : Act) → judge P S y a ≡ allowed → judge_act y a ≡ allowed
     unfolding judge_act check
     call_fine a j = rw (reached_passes P S good r, headed.partitions_are, headed.slots_are) j
 
     call_given : {A B : Type 0} (say : B → Said A) (z v : A) (does : ℕ → B) (refuses : Refusal → B) (a : Single)
-        → say (does (length (record_of (single a)))) ≡ accepted v → ((r : Refusal) → say (refuses r) ≡ refused_with z r) → judge P S y (single a) ≡ Accepted
+        → say (does (length (record_of (single a)))) ≡ accepted v → ((r : Refusal) → say (refuses r) ≡ refused_with z r) → judge P S y (single a) ≡ allowed
         → (log : List ℕ) (at : ℕ) → Room (single a) log at → say (call_by does refuses y (single a) log at).answer ≡ accepted v
     unfolding call_by
     call_given say z v does refuses a d n j log at room =
         said_perform say z v does refuses (judge_act y (single a)) (record_of (single a)) _ y log at d n
         ∙ ap (telled z v) (fully_done _ (record_of (single a)) log at (call_fine (single a) j) room)
 
-    trace_given : (p : Partition) → judge P S y (single (Trace p)) ≡ Accepted → Traceable y p
-    trace_given p j log at room = call_given said 0 _ Done NotDone (Trace p) refl (λ r. refl) j log at room
+    trace_given : (p : Partition) → judge P S y (single (Trace p)) ≡ allowed → Traceable y p
+    trace_given p j log at room = call_given said 0 _ Ok Err (Trace p) refl (λ r. refl) j log at room
 
-    close_given : judge P S y (single Close) ≡ Accepted → Closable y
-    close_given j log at room = call_given said_closing (totals 0 0 0) _ (closed y) NotClosed Close refl (λ r. refl) j log at room
+    close_given : judge P S y (single Close) ≡ allowed → Closable y
+    close_given j log at room = call_given said_closing (totals 0 0 0) _ (closed y) Err Close refl (λ r. refl) j log at room
 
-    trace_leaves : (p : Partition) → judge P S y (single (Trace p)) ≡ Accepted → (log : List ℕ) (at : ℕ) → Room (single (Trace p)) log at
+    trace_leaves : (p : Partition) → judge P S y (single (Trace p)) ≡ allowed → (log : List ℕ) (at : ℕ) → Room (single (Trace p)) log at
         → (trace_of y p log at).image ≡ apply P S y (single (Trace p))
     trace_leaves p j log at room = (call_leaves P S y (single_call (Trace p)) log at headed (ap (λ (s : Said ℕ). s.number) (trace_given p j log at room))).1
 

@@ -9,7 +9,7 @@ use mathlib.Core.List.{List, [], ◌∷◌}
 use mathlib.Core.Logic.{inl, inr, ⊎_elim}
 use native.Mathlib.Omega.{arith}
 use Rattle.loops.proofs.Tests.{clash}
-use Rattle.kinds.specs.declared.Verdict.TheVariants.{Accepted}
+use Rattle.kinds.specs.Answers.{allowed}
 use Rattle.lines.specs.Print.{Bytes}
 use Rattle.model.specs.Image.{Image, partitions, slots, get, length_of, blank}
 use Rattle.model.specs.Acts.{Act, apply}
@@ -55,7 +55,7 @@ module _ (w : Image) (acts : List Act) (x : Image) (c : Call) (log : List ℕ) (
       headed : Headed (get w partitions) (get w slots) x
       headed = let k = run_kept _ _ w (sound_true w sound) l.run in record { partitions_are = k.partitions_same; slots_are = k.slots_same }
 
-      j : (judge (get w partitions) (get w slots) x (act_of c) ≡ Accepted) × ((calling x c log at).image ≡ apply (get w partitions) (get w slots) x (act_of c))
+      j : (judge (get w partitions) (get w slots) x (act_of c) ≡ allowed) × ((calling x c log at).image ≡ apply (get w partitions) (get w slots) x (act_of c))
       j = call_leaves _ _ x c log at headed z
 
   emptied_called : Emptied acts x → ⊥
@@ -95,7 +95,7 @@ reached (recovered l log h kept k) = record { history = k.before.history; image_
 reached (unrecovered {x = x} l log ne) = record { zeros = zeros_all (length_of x) _ (refused_recovery log (length_of x) ne).0; none_since = refl }
 
 -- every accepted recovery of any bytes is a case of `recovered`
-pub recovers : {w : Image} {o : Origin} {acts : List Act} {x : Image} → World w o acts x → (log : List ℕ) → Bytes log → (recover_of log (length_of x)).verdict ≡ Accepted
+pub recovers : {w : Image} {o : Origin} {acts : List Act} {x : Image} → World w o acts x → (log : List ℕ) → Bytes log → (recover_of log (length_of x)).verdict ≡ allowed
     → (h : Rule) × (kept : List Act) × World w (logged h) kept (recover_of log (length_of x)).image
 recovers {x = x} world log b e = let a = any_bytes log (length_of x) b e in (a.rule, a.acts, recovered world log a.rule a.acts a.kept)
 

@@ -14,8 +14,9 @@ use Rattle.kinds.specs.Names.{most_slots}
 use Rattle.kinds.specs.Editions.{terms}
 use Rattle.kinds.specs.declared.Terms.{Terms}
 use Rattle.kinds.specs.Answers.{refuse}
-use Rattle.kinds.specs.declared.Verdict.{Verdict}
-use Rattle.kinds.specs.declared.Verdict.TheVariants.{Accepted, Refused}
+use Rattle.kinds.specs.Answers.{Verdict}
+use Rattle.std.specs.Prelude.{Ok, Err}
+use Rattle.kinds.specs.Answers.{allowed}
 use Rattle.lines.specs.Print.{Bytes}
 use Rattle.model.specs.Acts.{Act}
 use Rattle.model.specs.Image.{Image, partitions, slots, get, size}
@@ -53,9 +54,9 @@ module _ (h : Rule) (n : ℕ) where
   unfolding sized
   test_sized = test_size_below (terms_of h).slots h.P h.S n (slots_most h.edition)
 
-  judged_sized : judge_heading h n ≡ check sized 2 0 Accepted
+  judged_sized : judge_heading h n ≡ check sized 2 0 allowed
   unfolding sized judge_heading judge_format
-  judged_sized = sym (check_both _ _ 2 0 Accepted)
+  judged_sized = sym (check_both _ _ 2 0 allowed)
 
   heading_wrong : judge_heading h n ≡ refuse 2 0 → WrongSize (terms_of h).slots h.P h.S n
   unfolding check
@@ -88,10 +89,10 @@ pub recover_first : (log : List ℕ) (len : ℕ) → Bytes log → Recovers log 
 recover_first log len small = by (recover_of log len).verdict refl
   where
     by : (v : Verdict) → (recover_of log len).verdict ≡ v → Recovers log len (recover_of log len) (byte_of log (recover_of log len).verdict)
-    by Accepted e =
+    by (Ok _) e =
         let a = any_bytes log len small e in
         subst (λ (o : Recovered). Recovers log len o (byte_of log o.verdict)) (sym (kept_is a.kept)) (kept a.rule a.acts a.kept)
-    by (Refused r) e =
+    by (Err r) e =
         let f = refused_so log len small r.number r.extra e in
         subst (λ (o : Recovered). Recovers log len o (byte_of log o.verdict)) (sym (refused_only log len small r.number r.extra f))
         (refused r.number r.extra _ (to_paper f) (located_refused log len small r.number r.extra e))

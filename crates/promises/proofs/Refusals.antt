@@ -1,16 +1,15 @@
 -- Demand 1, the table of refusals: what each call says is what its list says, the number of the first row whose condition holds with its extra answer and
 -- nothing beside, and accepted with its values where no condition holds (`-first`); and the list determines it: nothing else may be said (`-exactly`).
 -- Assumes nothing.
-use Prim.Native.Nat.{ℕ, ◌+◌, ◌*◌, ◌≤◌}
-use mathlib.Core.Path.{◌≡◌, refl, sym, ap, ◌∙◌, subst}
-use mathlib.Core.Bool.{Bool, true, false, true≢false}
+use Prim.Native.Nat.{ℕ, ◌+◌, ◌*◌}
+use mathlib.Core.Path.{◌≡◌, refl, sym, ap, subst}
+use mathlib.Core.Bool.{Bool, true, false}
 use mathlib.Core.List.{List, [], ◌∷◌, ◌++◌}
 use mathlib.Core.Logic.{inl, inr, ⊎_elim}
 use native.Mathlib.Omega.{arith}
 use lib.Dec.{ltb, leb}
-use lib.ListN.{length, take}
-use lib.Seq.{length-take-le}
-use borrow.Author.Tests.{eqb-true, eqb-false, leb-true, leb-false}
+use lib.ListN.{length}
+use borrow.Author.Tests.{eqb-true, eqb-false}
 use Rattle.loops.specs.Loop.{both}
 use Rattle.kinds.specs.Names.{most_slots, most_operations, roots, handles}
 use Rattle.kinds.specs.Answers.{refuse, blank_record, no_names}
@@ -23,12 +22,11 @@ use Rattle.kinds.specs.declared.Single.TheVariants.{Open, Trace, Close, Local, H
 use Rattle.kinds.specs.declared.Record.{Record}
 use Rattle.kinds.specs.declared.Outlist.{Outlist}
 use Rattle.kinds.specs.declared.Refusal.{Refusal}
-use Rattle.kinds.specs.declared.Start.{Start}
-use Rattle.kinds.specs.declared.Start.TheVariants.{Root as FromRoot, Handle as FromHandle}
-use Rattle.kinds.specs.declared.Reason.{Reason}
-use Rattle.kinds.specs.declared.Reason.TheVariants.{Held}
-use Rattle.kinds.specs.declared.Verdict.{Verdict}
-use Rattle.kinds.specs.declared.Verdict.TheVariants.{Accepted, Refused}
+use Rattle.kinds.specs.Answers.{Reason}
+use Rattle.kinds.specs.Answers.{held_from}
+use Rattle.kinds.specs.Answers.{Verdict}
+use Rattle.std.specs.Prelude.{Result, Ok, Err}
+use Rattle.kinds.specs.Answers.{allowed}
 use Rattle.kinds.proofs.Answers.{unlike}
 use Rattle.model.specs.Image.{Image, partitions, slots, count, allowance, get, length_of, place}
 use Rattle.model.specs.Acts.{Act, commit, single, perform, unmarked, local_freed}
@@ -42,11 +40,10 @@ use Rattle.holding.proofs.Order.{foremost_once}
 use Rattle.holding.proofs.Found.{found_foremost, distance_in, holds_leads}
 use Rattle.writer.specs.Record.{record_of, newest, heading_of}
 use Rattle.journal.proofs.Placing.{Counted, judge_commit_lem}
-use Rattle.catalogue.specs.declared.Answer.TheVariants.{Done, Refused as NotDone}
-use Rattle.catalogue.specs.declared.Closing.TheVariants.{Refused as NotClosed}
-use Rattle.catalogue.specs.declared.Freeing.TheVariants.{Refused as NotFreed}
-use Rattle.catalogue.specs.Answers.{Said, accepted, refused_with, said, Totals, totals, said_closing, Yield, yield, said_freeing, said_reading, said_listing, said_asked, Chained, chained, said_reason}
-use Rattle.catalogue.specs.Call.{perform as perform-call, judge_act, judge_commit, judge_foreign, judge_object, format_of, call_by, call_of, commit_of, closed, close_of, freed, local_of, listing, listing_of, reading, reading_of, asked, asked_of, why_of}
+use Rattle.catalogue.specs.declared.Closed.{Closed}
+use Rattle.catalogue.specs.declared.Freed.{Freed}
+use Rattle.catalogue.specs.Answers.{Said, accepted, refused_with, said, totals, said_closing, yield, said_freeing, said_reading, said_listing, said_asked, Chained, chained, said_reason}
+use Rattle.catalogue.specs.Call.{perform as perform-call, judge_act, judge_foreign, judge_object, format_of, call_by, call_of, commit_of, closed, close_of, freed, local_of, listing_of, reading_of, answered, asked_of, why_of}
 use Rattle.catalogue.proofs.Perform.{fully}
 use Rattle.promises.specs.Rows.{Row, given, Found, telled, First, Unsound, WrongSize, WrongCount, NoRoom, Lowest, format_rows, operation_rows, operations_rows, act_rows, call_rows, commit_rows, outlist_rows, object_rows, Unheld, Narrow, why_rows, OfForemost}
 use Rattle.promises.specs.Effects.{Present}
@@ -57,8 +54,8 @@ use Rattle.promises.proofs.Why.{why_cases}
 use Rattle.promises.proofs.Listing.{Tests, Settled, settled_then, found_none, found_check, found_tell, found_after, found_then, exactly, said_perform}
 
 -- 17, judged last
-found_room : (bytes log : List ℕ) (at : ℕ) → Found (given 17 0 (NoRoom bytes at log) ∷ []) (check (leb (at + length bytes) (length log)) 17 0 Accepted)
-found_room bytes log at = found_check _ 17 0 Accepted _ [] (test_le (at + length bytes) (length log)) found_none
+found_room : (bytes log : List ℕ) (at : ℕ) → Found (given 17 0 (NoRoom bytes at log) ∷ []) (check (leb (at + length bytes) (length log)) 17 0 allowed)
+found_room bytes log at = found_check _ 17 0 allowed _ [] (test_le (at + length bytes) (length log)) found_none
 
 -- one operation, and each in turn
 found_operation : (P S : ℕ) (img : Image) (e : ℕ) (o : Operation) → Found (operation_rows P S img e o) (judge_op P S img e o)
@@ -136,47 +133,39 @@ logged_first say z v done refused u bytes next img log at rows d n f =
 settled_call : (img : Image) (a : Act) (log : List ℕ) (at : ℕ) → Settled (call_rows img a log at)
 settled_call img a log at = settled_then (act_rows img a) _ (settled_act img a) tt
 
--- 6: of 32 operations the first n
-test_count : (ops : List Operation) (n : ℕ) → length ops ≡ most_operations
-    → Tests (both (leb n most_operations) (both (ltb 0 (length (take n ops))) (leb (length (take n ops)) most_operations))) (WrongCount n)
-test_count ops n full = go (leb n most_operations) refl
-  where
-    go : (b : Bool) → leb n most_operations ≡ b → Tests (both b (both (ltb 0 (length (take n ops))) (leb (length (take n ops)) most_operations))) (WrongCount n)
-    go true q =
-        let l : n ≤ most_operations = leb-true n most_operations q in
-        let m : length (take n ops) ≡ n = length-take-le n ops (omega arith) in
-        rw m (test_as _ _ _ (⊎_elim (λ z. inl (omega arith)) (λ z. inr z)) (⊎_elim (λ z. inl (omega arith)) (λ z. inr z)) (test_both _ _ _ _ (test_lt 0 n) (test_le n most_operations)))
-    go false q = record { fails = λ e. inr (leb-false n most_operations q); passes = λ e c. true≢false (sym e) }
+-- 6: no operation, or too many
+test_count : (n : ℕ) → Tests (both (ltb 0 n) (leb n most_operations)) (WrongCount n)
+test_count n =
+    test_as _ _ _ (⊎_elim (λ z. inl (omega arith)) (λ z. inr z)) (⊎_elim (λ z. inl (omega arith)) (λ z. inr z)) (test_both _ _ _ _ (test_lt 0 n) (test_le n most_operations))
 
 -- FORMAT
 pub format_first : (img : Image) (P S : ℕ) (log : List ℕ) (at : ℕ)
     → First 0 (length (heading_of (newest P S))) (format_rows img P S log at) (said (format_of img P S log at).answer)
 unfolding format_of judge_format
 format_first img P S log at =
-    logged_first said 0 _ Done NotDone _ (heading_of (newest P S)) _ img log at (given 2 0 (WrongSize most_slots P S (length_of img)) ∷ []) refl (λ r. refl) (found_check _ 2 0 _ _ _ (test_size P S (length_of img)) found_none)
+    logged_first said 0 _ Ok Err _ (heading_of (newest P S)) _ img log at (given 2 0 (WrongSize most_slots P S (length_of img)) ∷ []) refl (λ r. refl) (found_check _ 2 0 _ _ _ (test_size P S (length_of img)) found_none)
 
 pub format_exactly : (img : Image) (P S : ℕ) (log : List ℕ) (at : ℕ) (s : Said ℕ) → First 0 (length (heading_of (newest P S))) (format_rows img P S log at) s
     → s ≡ said (format_of img P S log at).answer
 format_exactly img P S log at s f = exactly 0 (length (heading_of (newest P S))) (format_rows img P S log at) tt s _ f (format_first img P S log at)
 
--- COMMIT of the first n of 32 operations
-found_commit : (img : Image) (ops : List Operation) (n : ℕ) → length ops ≡ most_operations
-    → Found (given 1 0 (Unsound img) ∷ given 6 0 (WrongCount n) ∷ act_rows img (commit (take n ops))) (judge_commit img ops n)
-unfolding judge_commit judge
-found_commit img ops n full =
+-- COMMIT
+found_commit : (img : Image) (ops : List Operation)
+    → Found (given 1 0 (Unsound img) ∷ given 6 0 (WrongCount (length ops)) ∷ act_rows img (commit ops)) (judge_act img (commit ops))
+unfolding judge_act judge
+found_commit img ops =
     found_check (is_sound img) 1 0 _ _ _ (test_sound img)
-    (subst (Found (given 6 0 (WrongCount n) ∷ act_rows img (commit (take n ops)))) (check_both _ _ 6 0 _)
-    (found_check _ 6 0 _ _ _ (test_count ops n full) (found_operations (get img partitions) (get img slots) img 1 (take n ops))))
+    (found_check _ 6 0 _ _ _ (test_count (length ops)) (found_operations (get img partitions) (get img slots) img 1 ops))
 
-pub commit_first : (img : Image) (ops : List Operation) (n : ℕ) (log : List ℕ) (at : ℕ) → length ops ≡ most_operations
-    → First 0 (length (record_of (commit (take n ops)))) (commit_rows img ops n log at) (said (commit_of img ops n log at).answer)
-unfolding commit_of
-commit_first img ops n log at full = logged_first said 0 _ Done NotDone _ (record_of (commit (take n ops))) _ img log at _ refl (λ r. refl) (found_commit img ops n full)
+pub commit_first : (img : Image) (ops : List Operation) (log : List ℕ) (at : ℕ)
+    → First 0 (length (record_of (commit ops))) (commit_rows img ops log at) (said (commit_of img ops log at).answer)
+unfolding call_by
+commit_first img ops log at = logged_first said 0 _ Ok Err _ (record_of (commit ops)) _ img log at _ refl (λ r. refl) (found_commit img ops)
 
-pub commit_exactly : (img : Image) (ops : List Operation) (n : ℕ) (log : List ℕ) (at : ℕ) → length ops ≡ most_operations
-    → (s : Said ℕ) → First 0 (length (record_of (commit (take n ops)))) (commit_rows img ops n log at) s → s ≡ said (commit_of img ops n log at).answer
-commit_exactly img ops n log at full s f =
-    exactly 0 (length (record_of (commit (take n ops)))) (commit_rows img ops n log at) (settled_call img (commit (take n ops)) log at) s _ f (commit_first img ops n log at full)
+pub commit_exactly : (img : Image) (ops : List Operation) (log : List ℕ) (at : ℕ) (s : Said ℕ)
+    → First 0 (length (record_of (commit ops))) (commit_rows img ops log at) s → s ≡ said (commit_of img ops log at).answer
+commit_exactly img ops log at s f =
+    exactly 0 (length (record_of (commit ops))) (commit_rows img ops log at) (settled_call img (commit ops) log at) s _ f (commit_first img ops log at)
 
 -- AN ACT WHOSE RECORD IS A SINGLE LINE, whatever the form of its answer
 call_first : {A B : Type 0} (say : B → Said A) (z v : A) (done : ℕ → B) (refused : Refusal → B) (img : Image) (a : Single) (log : List ℕ) (at : ℕ)
@@ -194,7 +183,7 @@ call_exactly z v img a log at s t f g = exactly z v (call_rows img (single a) lo
 -- OPEN, TRACE, HOLD and DROP, which answer their record's length alone: each is `call_of` of its act (catalogue/specs/Call.antt)
 pub act_first : (img : Image) (a : Single) (log : List ℕ) (at : ℕ)
     → First 0 (length (record_of (single a))) (call_rows img (single a) log at) (said (call_of img (single a) log at).answer)
-act_first img a log at = call_first said 0 _ Done NotDone img a log at refl (λ r. refl)
+act_first img a log at = call_first said 0 _ Ok Err img a log at refl (λ r. refl)
 
 pub act_exactly : (img : Image) (a : Single) (log : List ℕ) (at : ℕ) (s : Said ℕ) → First 0 (length (record_of (single a))) (call_rows img (single a) log at) s
     → s ≡ said (call_of img (single a) log at).answer
@@ -204,9 +193,9 @@ act_exactly img a log at s f = call_exactly 0 _ img a log at s _ f (act_first im
 pub close_first : (img : Image) (log : List ℕ) (at : ℕ)
     → First (totals 0 0 0) (totals (length (record_of (single Close))) (get img count) (unmarked (get img partitions * get img slots) img)) (call_rows img (single Close) log at)
     (said_closing (close_of img log at).answer)
-close_first img log at = call_first said_closing (totals 0 0 0) _ (closed img) NotClosed img Close log at refl (λ r. refl)
+close_first img log at = call_first said_closing (totals 0 0 0) _ (closed img) Err img Close log at refl (λ r. refl)
 
-pub close_exactly : (img : Image) (log : List ℕ) (at : ℕ) (s : Said Totals)
+pub close_exactly : (img : Image) (log : List ℕ) (at : ℕ) (s : Said Closed)
     → First (totals 0 0 0) (totals (length (record_of (single Close))) (get img count) (unmarked (get img partitions * get img slots) img)) (call_rows img (single Close) log at) s
     → s ≡ said_closing (close_of img log at).answer
 close_exactly img log at s f = call_exactly (totals 0 0 0) _ img Close log at s _ f (close_first img log at)
@@ -215,12 +204,18 @@ close_exactly img log at s f = call_exactly (totals 0 0 0) _ img Close log at s 
 pub local_first : (img : Image) (p : Partition) (log : List ℕ) (at : ℕ)
     → First (yield 0 0) (yield (length (record_of (single (Local p)))) (local_freed (get img partitions) (get img slots) p.0 img)) (call_rows img (single (Local p)) log at)
     (said_freeing (local_of img p log at).answer)
-local_first img p log at = call_first said_freeing (yield 0 0) _ (freed img p) NotFreed img (Local p) log at refl (λ r. refl)
+local_first img p log at = call_first said_freeing (yield 0 0) _ (freed img p) Err img (Local p) log at refl (λ r. refl)
 
-pub local_exactly : (img : Image) (p : Partition) (log : List ℕ) (at : ℕ) (s : Said Yield)
+pub local_exactly : (img : Image) (p : Partition) (log : List ℕ) (at : ℕ) (s : Said Freed)
     → First (yield 0 0) (yield (length (record_of (single (Local p)))) (local_freed (get img partitions) (get img slots) p.0 img)) (call_rows img (single (Local p)) log at) s
     → s ≡ said_freeing (local_of img p log at).answer
 local_exactly img p log at s f = call_exactly (yield 0 0) _ img (Local p) log at s _ f (local_first img p log at)
+
+-- a question's answer is told as its verdict is
+said_answered : {A : Type 0} (say : Result A Refusal → Said A) (z v : A) → say (Ok v) ≡ accepted v → ((r : Refusal) → say (Err r) ≡ refused_with z r)
+    → (u : Verdict) → say (answered u v) ≡ telled z v u
+said_answered say z v d n (Ok _) = d
+said_answered say z v d n (Err r) = n r
 
 -- OUTLIST
 found_outlist : (img : Image) (p : Partition) → Found (outlist_rows img p.0) (judge_foreign img p)
@@ -229,11 +224,7 @@ found_outlist img p = found_check _ 1 0 _ _ _ (test_sound img) (found_check _ 7 
 
 pub outlist_first : (img : Image) (p : Partition) → First no_names (outlist (get img partitions) (get img slots) p.0 img) (outlist_rows img p.0) (said_listing (listing_of img p))
 unfolding listing_of
-outlist_first img p = (judge_foreign img p, found_outlist img p, by (judge_foreign img p) (outlist (get img partitions) (get img slots) p.0 img))
-  where
-    by : (u : Verdict) (o : Outlist) → said_listing (listing u o) ≡ telled no_names o u
-    by Accepted o = refl
-    by (Refused x) o = refl
+outlist_first img p = (judge_foreign img p, found_outlist img p, said_answered said_listing no_names _ refl (λ r. refl) (judge_foreign img p))
 
 pub outlist_exactly : (img : Image) (p : Partition) (s : Said Outlist)
     → First no_names (outlist (get img partitions) (get img slots) p.0 img) (outlist_rows img p.0) s → s ≡ said_listing (listing_of img p)
@@ -248,11 +239,7 @@ found_object img n =
 
 pub read_first : (img : Image) (n : Name) → First blank_record (read_of img (place (get img slots) n)) (object_rows img n) (said_reading (reading_of img n))
 unfolding reading_of
-read_first img n = (judge_object img n, found_object img n, by (judge_object img n))
-  where
-    by : (u : Verdict) → said_reading (reading u (read_of img (place (get img slots) n))) ≡ telled blank_record (read_of img (place (get img slots) n)) u
-    by Accepted = refl
-    by (Refused x) = refl
+read_first img n = (judge_object img n, found_object img n, said_answered said_reading blank_record _ refl (λ r. refl) (judge_object img n))
 
 pub read_exactly : (img : Image) (n : Name) (s : Said Record) → First blank_record (read_of img (place (get img slots) n)) (object_rows img n) s → s ≡ said_reading (reading_of img n)
 read_exactly img n s f = exactly blank_record (read_of img (place (get img slots) n)) (object_rows img n) tt s _ f (read_first img n)
@@ -260,12 +247,7 @@ read_exactly img n s f = exactly blank_record (read_of img (place (get img slots
 pub ask_first : (img : Image) (n : Name)
     → First false (ask (get img partitions) (get img slots) img (place (get img slots) n)) (object_rows img n) (said_asked (asked_of img n))
 unfolding asked_of
-ask_first img n = (judge_object img n, found_object img n, by (judge_object img n) (ask (get img partitions) (get img slots) img (place (get img slots) n)))
-  where
-    by : (u : Verdict) (b : Bool) → said_asked (asked u b) ≡ telled false b u
-    by Accepted true = refl
-    by Accepted false = refl
-    by (Refused x) b = refl
+ask_first img n = (judge_object img n, found_object img n, said_answered said_asked false _ refl (λ r. refl) (judge_object img n))
 
 pub ask_exactly : (img : Image) (n : Name) (s : Said Bool)
     → First false (ask (get img partitions) (get img slots) img (place (get img slots) n)) (object_rows img n) s → s ≡ said_asked (asked_of img n)
@@ -276,8 +258,8 @@ module _ (img : Image) (n : Name) where
   -- accepted, it says what is so of every foremost chain, since there is only one
   pub why_value : (v : Chained) × OfForemost img n v
   why_value = (
-    (said_reason (Held (start_of chain.start) (length chain.fields))).value,
-    λ h c f. ap (λ (x : Chain). (said_reason (Held (start_of x.start) (length x.fields))).value) (foremost_once chain c (is_foremost h c f) f),
+    (said_reason (held_from (start_of chain.start) (length chain.fields))).value,
+    λ h c f. ap (λ (x : Chain). (said_reason (held_from (start_of x.start) (length x.fields))).value) (foremost_once chain c (is_foremost h c f) f),
   )
     where
       places : ℕ
@@ -298,25 +280,21 @@ module _ (img : Image) (n : Name) where
     found_explained h _ (narrow c f l) =
         (refuse 19 0, inr (λ g. g (holds_leads (get img slots) img c f.holds), inl (record { chain = c; foremost = f; few = omega arith }, refl)), refl)
     found_explained h _ (held c f l) =
-        (Accepted, inr (λ g. g (holds_leads (get img slots) img c f.holds), inr (wide, refl)), said_held (start_of c.start) _ ∙ ap accepted (sym (value h c f)))
+        (allowed, inr (λ g. g (holds_leads (get img slots) img c f.holds), inr (wide, refl)), ap accepted (sym (value h c f)))
       where
         wide : Narrow img n words → ⊥
         wide m =
             let e : length m.chain.fields ≡ length c.fields = ap (λ (x : Chain). length x.fields) (foremost_once m.chain c m.foremost f) in
             omega (arith, m.few)
 
-        said_held : (s : Start) (k : ℕ) → said_reason (Held s k) ≡ accepted (said_reason (Held s k)).value
-        said_held (FromRoot r) k = refl
-        said_held (FromHandle r) k = refl
-
     pub why_first : First (chained false 0 0) v (why_rows img n words) (said_reason (why_of img n words).answer)
     unfolding and_then
     why_first =
         why_cases img n words (λ o. First (chained false 0 0) v (why_rows img n words) (said_reason o.answer))
-        (λ r e. (Refused r, found_after (object_rows img n) _ (Refused r) Accepted (subst (Found (object_rows img n)) e (found_object img n)) unlike, refl))
+        (λ r e. (Err r, found_after (object_rows img n) _ (Err r) allowed (subst (Found (object_rows img n)) e (found_object img n)) unlike, refl))
         (λ h o x.
         let f = found_explained h o x in
-        (f.0, found_after (object_rows img n) _ Accepted f.0 (subst (Found (object_rows img n)) (present_judged img n h) (found_object img n)) (λ e. f.1), f.2))
+        (f.0, found_after (object_rows img n) _ allowed f.0 (subst (Found (object_rows img n)) (present_judged img n h) (found_object img n)) (λ e. f.1), f.2))
 
     pub why_exactly : (s : Said Chained) → First (chained false 0 0) v (why_rows img n words) s → s ≡ said_reason (why_of img n words).answer
     why_exactly s f = exactly (chained false 0 0) v (why_rows img n words) tt s _ f why_first

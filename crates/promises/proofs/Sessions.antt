@@ -10,10 +10,11 @@ use borrow.Author.Tests.{lt-ltb}
 use Rattle.loops.proofs.Tests.{eq_or_ne}
 use Rattle.kinds.specs.declared.Name.{Name}
 use Rattle.kinds.specs.declared.Handle.{Handle}
-use Rattle.kinds.specs.declared.Record.{Record}
 use Rattle.kinds.specs.declared.Single.{Single}
 use Rattle.kinds.specs.declared.Single.TheVariants.{Hold}
-use Rattle.kinds.specs.declared.Verdict.TheVariants.{Accepted}
+use Rattle.std.specs.Prelude.{Ok}
+use Rattle.kinds.specs.Answers.{allowed}
+use Rattle.std.specs.Result.{is_ok}
 use Rattle.model.specs.Image.{Image, partitions, slots, get, place}
 use Rattle.model.specs.Spread.{start}
 use Rattle.model.specs.Acts.{Act, single, apply}
@@ -27,7 +28,6 @@ use Rattle.model.proofs.Demand.{run_append}
 use Rattle.model.proofs.Sessions.{handle_leads, leads_used, hold_in, retaining_run, sessions as acts-session, spared}
 use Rattle.model.proofs.Soundness.{sound_true, sound_back, used_back}
 use Rattle.model.proofs.SoundnessActs.{Kept, run_kept}
-use Rattle.catalogue.specs.declared.Reading.{Reading}
 use Rattle.catalogue.specs.Call.{judge_object, reading_of}
 use Rattle.promises.specs.Calls.{single_call, act_of, calling}
 use Rattle.promises.specs.Effects.{Present}
@@ -37,7 +37,7 @@ use Rattle.promises.proofs.Effects.{ask_yes}
 use Rattle.promises.proofs.Headed.{Headed, call_leaves}
 
 -- what read answers of an object in use
-present_read : (img : Image) (m : Name) → Present img m → reading_of img m ≡ record { verdict = Accepted; object = read_of img (place (get img slots) m) }
+present_read : (img : Image) (m : Name) → Present img m → reading_of img m ≡ Ok (read_of img (place (get img slots) m))
 unfolding reading_of judge_object judge_name check
 present_read img m p = rw (sound_back img p.sound, lt-ltb _ _ p.partition, lt-ltb _ _ p.slot, used_back img _ p.in_use)
 
@@ -49,7 +49,7 @@ same_record x y j r = rw (r.value, r.fields 0 (omega arith), r.fields 1 (omega a
 same_reading : (y z : Image) (m : Name) → Present y m → Present z m → get z slots ≡ get y slots → Remains y z (place (get y slots) m) → reading_of z m ≡ reading_of y m
 same_reading y z m p q e r =
     present_read z m q
-    ∙ ap (λ (o : Record). record { verdict = Accepted; object = o }) (rw e (same_record y z (place (get y slots) m) r))
+    ∙ ap Ok (rw e (same_record y z (place (get y slots) m) r))
     ∙ sym (present_read y m p)
 
 -- an object to which a root or a handle leads, in a sound image
@@ -61,12 +61,12 @@ module _ (y : Image) (s : Sound y) (m : Name) (lp : m.partition.0 < get y partit
   in_sight =
       record {
         in_use = present.in_use;
-        read = ap (λ (r : Reading). r.verdict) (present_read y m present);
+        read = ap is_ok (present_read y m present);
         asked = (ask_yes y m).so (record { present = present; leads = c });
       }
 
   -- a call that is no commit leaves what read answers of it
-  accepted_same : (a : Single) → judge (get y partitions) (get y slots) y (single a) ≡ Accepted
+  accepted_same : (a : Single) → judge (get y partitions) (get y slots) y (single a) ≡ allowed
       → reading_of (apply (get y partitions) (get y slots) y (single a)) m ≡ reading_of y m
   accepted_same a j =
       let r = spared (get y partitions) (get y slots) y s (place (get y slots) m) c a j in
@@ -91,7 +91,7 @@ module _ (h : Handle) (n : Name) (x : Image) where
   -- the calls since a hold as acts, P and S being words 0 and 1 of x
   record Going (since : List Act) (y : Image) : Type 0 where
     sound : Sound x
-    judged : judge (get x partitions) (get x slots) x (single (Hold h n)) ≡ Accepted
+    judged : judge (get x partitions) (get x slots) x (single (Hold h n)) ≡ allowed
     run : Retaining (get x partitions) (get x slots) h n (apply (get x partitions) (get x slots) x (single (Hold h n))) since y
 
   kept : {since : List Act} {y : Image} → Going since y → Kept (get x partitions) (get x slots) x y

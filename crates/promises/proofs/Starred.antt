@@ -17,11 +17,12 @@ use Rattle.kinds.specs.Answers.{refuse}
 use Rattle.kinds.specs.Operations.{new, set_to, root_to, unroot, three}
 use Rattle.kinds.specs.declared.Name.{Name}
 use Rattle.kinds.specs.declared.Handle.{Handle}
-use Rattle.kinds.specs.declared.Target.TheVariants.{Object}
+use Rattle.std.specs.Prelude.{Some}
 use Rattle.kinds.specs.declared.Single.TheVariants.{Close, Local, Hold, Drop}
 use Rattle.kinds.specs.declared.Start.TheVariants.{Root as FromRoot, Handle as FromHandle}
-use Rattle.kinds.specs.declared.Reason.TheVariants.{Held}
-use Rattle.kinds.specs.declared.Verdict.TheVariants.{Accepted}
+use Rattle.kinds.specs.Answers.{held_from}
+use Rattle.std.specs.Prelude.{Ok}
+use Rattle.kinds.specs.Answers.{allowed}
 use Rattle.lines.proofs.Computing.{reading, printing}
 use Rattle.model.proofs.Computing.{imaging, looping, acting, judging, sounding, listing}
 use Rattle.lines.specs.declared.line.Line.TheVariants.{Operation, Single}
@@ -37,7 +38,7 @@ use Rattle.writer.specs.Write.{splice}
 use Rattle.journal.specs.Log.{log_of}
 use Rattle.journal.specs.Recover.{act, judge_heading, headed, feed, feed_all, refusal, recovery, answer, recover_of, byte_by, byte_of}
 use Rattle.catalogue.specs.Call as call
-use Rattle.catalogue.specs.Call.{judge_act, judge_commit, judge_foreign, judge_object, format_of, call_by, commit_of, listing_of, why_of}
+use Rattle.catalogue.specs.Call.{judge_act, judge_foreign, judge_object, format_of, call_by, listing_of, why_of}
 use Rattle.promises.proofs.Cuts.{cut_at}
 use Rattle.promises.specs.Calls.{Call, act_of, calling}
 use Rattle.promises.specs.Sessions.{HeldSince, held, called}
@@ -53,7 +54,7 @@ unfolding act judge_heading headed feed feed_all answer recover_of body after by
 recovering = tt
 
 performing : Unit {0}
-unfolding call.perform judge_act judge_commit judge_foreign judge_object format_of call_by commit_of listing_of why_of
+unfolding call.perform judge_act judge_foreign judge_object format_of call_by listing_of why_of
 performing = tt
 
 explaining : Unit {0}
@@ -121,7 +122,7 @@ pub table :
     Agree
     -- P = 2, S = 4: 125 words; object (1,0) begins at 97, its name is 129
     (case (size 2 4) 125 ∷ case (length_of (session []).image) 125 ∷
-    case (addr (state (place 4 (named 1 0)))) 97 ∷ case (word_of (Object (named 1 0))) 129 ∷
+    case (addr (state (place 4 (named 1 0)))) 97 ∷ case (word_of (Some (named 1 0))) 129 ∷
     -- the paper's log, which these calls write, the bytes after it left as they were: allowance 4, count 4, 0 freed
     case (session (committing three ∷ four_traces)).log (paper_log 4 ++ replicate 68 255) ∷
     case (session (committing three ∷ four_traces)).replies (done ∷ done ∷ opened 4 ∷ done ∷ done ∷ done ∷ done ∷ closed 4 0 ∷ []) ∷
@@ -173,7 +174,7 @@ pub own_table :
     -- on an empty heap: 12, and of partition 2: 7
     case (session (localizing 0 ∷ localizing 2 ∷ [])).replies (done ∷ refused 12 0 ∷ refused 7 0 ∷ []) ∷
     -- the outlist of partition 1 is the name of (0,3)
-    case (listing_of (session (garbage ∷ [])).image (partition 1)).outlist (record { number = 1; names = 4 ∷ replicate 511 0 }) ∷
+    case (listing_of (session (garbage ∷ [])).image (partition 1)) (Ok (record { number = 1; names = 4 ∷ replicate 511 0 })) ∷
     -- what a session holds is kept through a phase and by local collections though its root expired, with what it refers to; a drop frees nothing; then
     -- the collections free both
     case (session (browsing ++ (collecting ++ (dropping 31 ∷ localizing 1 ∷ localizing 0 ∷ [])))).replies
@@ -192,11 +193,11 @@ pub own_table :
     case (session (committing three ∷ holding 0 1 0 ∷ holding 0 0 1 ∷ [])).replies (done ∷ done ∷ done ∷ done ∷ []) ∷
     -- why (0,1) is still here: root 0, (0,0), its field 0, (1,0), its field 0, (0,1); later words stay. With a word too few it is 19. Handle 31 on (1,0) is nearer,
     -- and on (0,1) it is the chain; the root comes before it where both name (0,0)
-    case (why_of three_objects (named 0 1) (replicate 7 9)) (explained (Held (FromRoot 0) 2) (1 ∷ 0 ∷ 129 ∷ 0 ∷ 2 ∷ 9 ∷ 9 ∷ [])) ∷
+    case (why_of three_objects (named 0 1) (replicate 7 9)) (explained (held_from (FromRoot 0) 2) (1 ∷ 0 ∷ 129 ∷ 0 ∷ 2 ∷ 9 ∷ 9 ∷ [])) ∷
     case (why_of three_objects (named 0 1) (replicate 4 9)) (denied 19 (replicate 4 9)) ∷
-    case (why_of (three_holding 129) (named 0 1) (replicate 4 9)) (explained (Held (FromHandle (handle-of 31)) 1) (129 ∷ 0 ∷ 2 ∷ 9 ∷ [])) ∷
-    case (why_of (three_holding 2) (named 0 1) (9 ∷ [])) (explained (Held (FromHandle (handle-of 31)) 0) (2 ∷ [])) ∷
-    case (why_of (three_holding 1) (named 0 0) (9 ∷ [])) (explained (Held (FromRoot 0) 0) (1 ∷ [])) ∷
+    case (why_of (three_holding 129) (named 0 1) (replicate 4 9)) (explained (held_from (FromHandle (handle-of 31)) 1) (129 ∷ 0 ∷ 2 ∷ 9 ∷ [])) ∷
+    case (why_of (three_holding 2) (named 0 1) (9 ∷ [])) (explained (held_from (FromHandle (handle-of 31)) 0) (2 ∷ [])) ∷
+    case (why_of (three_holding 1) (named 0 0) (9 ∷ [])) (explained (held_from (FromRoot 0) 0) (1 ∷ [])) ∷
     -- no root or handle leads to a cycle: 18; an object not in use: 9; slot 4: 7
     case (why_of (session (garbage ∷ [])).image (named 0 1) (9 ∷ [])) (denied 18 (9 ∷ [])) ∷
     case (why_of three_objects (named 0 2) (9 ∷ [])) (denied 9 (9 ∷ [])) ∷ case (why_of three_objects (named 0 4) (9 ∷ [])) (denied 7 (9 ∷ [])) ∷
@@ -225,8 +226,8 @@ pub own_table :
     case (recover_of (behind 4 (wide 1 123)) 125) (refusal 125 5 2) ∷ case (recover_of (behind 2 (wide 1 123)) 125) (refusal 125 4 2) ∷
     case (recover_of (wide 1 123) 125) (refusal 125 3 1) ∷ case (recover_of (wide 4 123) 125) (refusal 125 2 1) ∷ case (recover_of (wide 4 1234) 125) (refusal 125 3 1) ∷
     -- 65 slots are 2 under edition 3 and pass under edition 4, which has 128; 129 are 2
-    case (recover_of (heading_of (rule 3 1 65)) (size 1 65)).verdict (refuse 2 1) ∷ case (recover_of (heading_of (rule 4 1 65)) (size 1 65)).verdict Accepted ∷
-    case (recover_of (heading_of (rule 4 1 128)) (size 1 128)).verdict Accepted ∷ case (recover_of (heading_of (rule 4 1 129)) (size 1 129)).verdict (refuse 2 1) ∷
+    case (recover_of (heading_of (rule 3 1 65)) (size 1 65)).verdict (refuse 2 1) ∷ case (recover_of (heading_of (rule 4 1 65)) (size 1 65)).verdict allowed ∷
+    case (recover_of (heading_of (rule 4 1 128)) (size 1 128)).verdict allowed ∷ case (recover_of (heading_of (rule 4 1 129)) (size 1 129)).verdict (refuse 2 1) ∷
     -- and the byte of each: none with 5; the digit of an edition that there is not; the digit for which there is no room; other text at once; the byte that only a
     -- heading has there
     case (byte_of (headings 4) (refuse 5 2)) 0 ∷ case (byte_of (headings 5) (refuse 4 2)) 5 ∷ case (byte_of (heading_of (rule 5 2 4)) (refuse 3 1)) 5 ∷

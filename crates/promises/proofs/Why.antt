@@ -14,14 +14,15 @@ use lib.Seq.{get_or-append-add, get_or-drop}
 use borrow.Author.Tests.{ltb-true, ltb-false}
 use Rattle.kinds.specs.Names.{roots, word_of, session}
 use Rattle.kinds.specs.declared.Name.{Name}
-use Rattle.kinds.specs.declared.Target.TheVariants.{Object}
+use Rattle.std.specs.Prelude.{Some}
+use Rattle.kinds.specs.declared.Held.{Held}
 use Rattle.kinds.specs.declared.Start.{Start}
 use Rattle.kinds.specs.declared.Start.TheVariants.{Root, Handle}
-use Rattle.kinds.specs.declared.Reason.{Reason}
-use Rattle.kinds.specs.declared.Reason.TheVariants.{Held, Refused as NotHeld}
+use Rattle.kinds.specs.Answers.{Reason}
+use Rattle.kinds.specs.Answers.{held_from}
 use Rattle.kinds.specs.declared.Refusal.{Refusal}
-use Rattle.kinds.specs.declared.Verdict.{Verdict}
-use Rattle.kinds.specs.declared.Verdict.TheVariants.{Accepted, Refused}
+use Rattle.kinds.specs.Answers.{Verdict}
+use Rattle.std.specs.Prelude.{Ok, Err}
 use Rattle.model.specs.Image.{Image, Key, anchor, field, partitions, slots, anchors, get, place, place_of, Holder, an_anchor, a_field}
 use Rattle.model.specs.Chains.{Names, Anchored}
 use Rattle.model.proofs.Numbers.{Among, numbered, check_among, among_wider, name_among}
@@ -34,7 +35,6 @@ use Rattle.holding.proofs.Order.{follows_length, foremost_once}
 use Rattle.holding.proofs.Found.{foremost_short, found_foremost, found_so, holds_leads}
 use Rattle.holding.proofs.Words.{words_length, place_name}
 use Rattle.holding.proofs.Answers.{by_cases, held_cases}
-use Rattle.catalogue.specs.declared.Asked.TheVariants.{No}
 use Rattle.catalogue.specs.Answers.{said_reason}
 use Rattle.catalogue.specs.Call.{judge_object, asked_of, reasoned, why_of}
 use Rattle.catalogue.proofs.Leaving.{told_number}
@@ -55,10 +55,10 @@ explains_once {S} {img} _ _ (held c f l) (unheld h) = absurd (h (holds_leads S i
 explains_once _ _ (held c f l) (narrow d g m) =
     let e : length c.fields ≡ length d.fields = ap (λ (x : Chain). length x.fields) (foremost_once c d f g) in absurd (omega arith)
 explains_once {S} {words = words} _ _ (held c f l) (held d g m) =
-    ap (λ (x : Chain). explained (Held (start_of x.start) (length x.fields)) (words_of S x ++ drop (2 * length x.fields + 1) words)) (foremost_once c d f g)
+    ap (λ (x : Chain). explained (held_from (start_of x.start) (length x.fields)) (words_of S x ++ drop (2 * length x.fields + 1) words)) (foremost_once c d f g)
 
 -- the name at a name's place is its word, which is not 0
-name_of : (S : ℕ) (q : Name) → q.slot.0 < S → name_at S (place S q) ≡ word_of (Object q)
+name_of : (S : ℕ) (q : Name) → q.slot.0 < S → name_at S (place S q) ≡ word_of (Some q)
 unfolding name_at word_of
 name_of S q l = rw (digits_div q.partition.0 l, digits_mod q.partition.0 l)
 
@@ -142,37 +142,37 @@ module _ (img : Image) (n : Name) where
         named_upto (same r) = same (named_upto r)
 
   -- whatever the image and the name are: refused as read and ask are, or so
-  pub why_cases : (words : List ℕ) (Q : Explained Reason → Type 0) → ((r : Refusal) → judge_object img n ≡ Refused r → Q (explained (NotHeld r) words))
+  pub why_cases : (words : List ℕ) (Q : Explained Reason → Type 0) → ((r : Refusal) → judge_object img n ≡ Err r → Q (explained (Err r) words))
       → (Present img n → (o : Explained Reason) → Explains S img t words o → Q o) → Q (why_of img n words)
   unfolding why_of
   why_cases words Q refused explains = go (judge_object img n) refl
     where
       go : (u : Verdict) → judge_object img n ≡ u → Q (reasoned u (held_of (get img partitions * S) S img t words) words)
-      go Accepted e = let h = judged_present img n e in subst Q (found h words) (explains h _ (why_explains h words))
-      go (Refused r) e = refused r e
+      go (Ok _) e = let h = judged_present img n e in subst Q (found h words) (explains h _ (why_explains h words))
+      go (Err r) e = refused r e
 
   -- none of the refusals of read and ask is 18
-  object_number : (r : Refusal) → judge_object img n ≡ Refused r → r.number ≢ 18
+  object_number : (r : Refusal) → judge_object img n ≡ Err r → r.number ≢ 18
   unfolding judge_object
   object_number r e =
       go _ e (check_among _ 1 0 _ (omega arith) (omega arith) (among_wider 1 9 _ (omega arith) (omega arith) (name_among (get img partitions) (get img slots) img n)))
     where
-      go : (u : Verdict) → u ≡ Refused r → Among 1 9 u → r.number ≢ 18
-      go Accepted q a z = let y : ◌≡◌ {A = ℕ} 0 1 = cc in omega arith
-      go (Refused _) q (numbered x l m) z = let y : x.number ≡ r.number = cc in omega arith
+      go : (u : Verdict) → u ≡ Err r → Among 1 9 u → r.number ≢ 18
+      go (Ok _) q a z = let y : ◌≡◌ {A = ℕ} 0 1 = cc in omega arith
+      go (Err _) q (numbered x l m) z = let y : x.number ≡ r.number = cc in omega arith
 
   module _ (words : List ℕ) where
     -- 18 EXACTLY where ask says no
-    pub why_18 : Exactly ((said_reason (why_of img n words).answer).number ≡ 18) (asked_of img n ≡ No)
+    pub why_18 : Exactly ((said_reason (why_of img n words).answer).number ≡ 18) (asked_of img n ≡ Ok false)
     why_18 =
         record {
-          only = why_cases words (λ o. (said_reason o.answer).number ≡ 18 → asked_of img n ≡ No) (λ r e z. absurd (object_number r e z)) unheld_asked;
+          only = why_cases words (λ o. (said_reason o.answer).number ≡ 18 → asked_of img n ≡ Ok false) (λ r e z. absurd (object_number r e z)) unheld_asked;
           so = λ e.
               let u = (ask_no img n).only e in
               ap (λ (o : Explained Reason). (said_reason o.answer).number) (explains_once _ _ (why_explains u.present words) (unheld u.none));
         }
       where
-        unheld_asked : Present img n → (o : Explained Reason) → Explains S img t words o → (said_reason o.answer).number ≡ 18 → asked_of img n ≡ No
+        unheld_asked : Present img n → (o : Explained Reason) → Explains S img t words o → (said_reason o.answer).number ≡ 18 → asked_of img n ≡ Ok false
         unheld_asked h _ (unheld g) z = (ask_no img n).so (record { present = h; none = g })
         unheld_asked h _ (narrow c f l) z = absurd (omega arith)
         unheld_asked h _ (held c f l) z = absurd (omega (arith, told_number (start_of c.start) (length c.fields)))
@@ -206,23 +206,24 @@ module _ (img : Image) (n : Name) where
       number_is : length chain.fields ≡ k
       left_is : left ≡ words_of S chain ++ drop (2 * k + 1) words
 
-    module _ (s : Start) (k : ℕ) (e : (why_of img n words).answer ≡ Held s k) where
+    module _ (s : Start) (k : ℕ) (e : (why_of img n words).answer ≡ held_from s k) where
       told : Told s k (why_of img n words).words
-      told = why_cases words (λ o. o.answer ≡ Held s k → Told s k o.words) (λ r q z. unlike z) by e
+      told = why_cases words (λ o. o.answer ≡ held_from s k → Told s k o.words) (λ r q z. unlike z) by e
         where
-          unlike : {A : Type 0} {r : Refusal} → NotHeld r ≡ Held s k → A
+          unlike : {A : Type 0} {r : Refusal} → Err r ≡ held_from s k → A
           unlike z = let y : ◌≡◌ {A = ℕ} 0 1 = cc in absurd (omega arith)
 
-          by : Present img n → (o : Explained Reason) → Explains S img t words o → o.answer ≡ Held s k → Told s k o.words
+          by : Present img n → (o : Explained Reason) → Explains S img t words o → o.answer ≡ held_from s k → Told s k o.words
           by h _ (unheld g) z = unlike z
           by h _ (narrow c f l) z = unlike z
           by h _ (held c f l) z =
-              let q : length c.fields ≡ k = cc in
+              let w : ◌≡◌ {A = Held} (record { start = start_of c.start; references = length c.fields }) (record { start = s; references = k }) = cc in
+              let q : length c.fields ≡ k = ap (λ (x : Held). x.references) w in
               record {
                 present = h;
                 chain = c;
                 foremost = f;
-                start_is = cc;
+                start_is = ap (λ (x : Held). x.start) w;
                 number_is = q;
                 left_is = ap (λ (i : ℕ). words_of S c ++ drop (2 * i + 1) words) q;
               }

@@ -1,5 +1,5 @@
 -- The logged calls as one kind of thing, and what each makes of an image and a log buffer.
-use Rattle.std.specs.Prelude.{ℕ, List, take}
+use Rattle.std.specs.Prelude.{ℕ, List}
 use Rattle.kinds.specs.declared.Operation.{Operation}
 use Rattle.kinds.specs.declared.Single.{Single}
 use Rattle.kinds.specs.declared.Single.TheVariants.{Open, Trace, Close, Local, Hold, Drop}
@@ -7,20 +7,18 @@ use Rattle.model.specs.Image.{Image}
 use Rattle.model.specs.Acts.{Act, commit, single}
 use Rattle.writer.specs.Record.{ops_of}
 use Rattle.journal.specs.Log.{Payloads}
-use Rattle.catalogue.specs.declared.Answer.{Answer}
-use Rattle.catalogue.specs.declared.Closing.{Closing}
-use Rattle.catalogue.specs.declared.Freeing.{Freeing}
+use Rattle.catalogue.specs.Answers.{Answer, Closing, Freeing}
 use Rattle.catalogue.specs.Answers.{Said, said, said_closing, said_freeing}
 use Rattle.catalogue.specs.Call.{Outcome, format_of, commit_of, open_of, trace_of, close_of, local_of, hold_of, drop_of}
 
--- a call on a heap, with its arguments: a commit, of whose 32 operations the first n count, or an act whose record is a single line
+-- a call on a heap, with its arguments: a commit of operations, or an act whose record is a single line
 pub data Call : Type 0 where
-  commit_call : List Operation → ℕ → Call
+  commit_call : List Operation → Call
   single_call : Single → Call
 
 -- the act that it is
 abbrev pub act_of : Call → Act
-act_of (commit_call ops n) = commit (take n ops)
+act_of (commit_call ops) = commit ops
 act_of (single_call a) = single a
 
 -- payloads are 32-bit words (in code they always are)
@@ -52,7 +50,7 @@ abbrev pub formatting : Image → ℕ → ℕ → List ℕ → ℕ → Made
 formatting img P S log at = answered (format_of img P S log at)
 
 abbrev pub calling : Image → Call → List ℕ → ℕ → Made
-calling img (commit_call ops n) log at = answered (commit_of img ops n log at)
+calling img (commit_call ops) log at = answered (commit_of img ops log at)
 calling img (single_call Open) log at = answered (open_of img log at)
 calling img (single_call (Trace p)) log at = answered (trace_of img p log at)
 calling img (single_call Close) log at = closed_up (close_of img log at)

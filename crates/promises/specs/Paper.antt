@@ -1,7 +1,6 @@
 -- The paper's log, and what a table of numbers says: calls made one after the other, and what each replies.
-use Rattle.std.specs.Prelude.{ℕ, ◌+◌, cond, List, [], ◌∷◌, ◌++◌, eqb, length, take, replicate}
-use Rattle.kinds.specs.Names.{most_operations, partition, named, session as handle-of}
-use Rattle.kinds.specs.Operations.{unroot}
+use Rattle.std.specs.Prelude.{ℕ, ◌+◌, cond, List, [], ◌∷◌, ◌++◌, eqb, replicate}
+use Rattle.kinds.specs.Names.{partition, named, session as handle-of}
 use Rattle.kinds.specs.declared.Operation.{Operation}
 use Rattle.kinds.specs.declared.Single.TheVariants.{Open, Trace, Close, Local, Hold, Drop}
 use Rattle.model.specs.Image.{Image, allowance, get}
@@ -88,7 +87,7 @@ reply s r = cond (eqb s.number 0) r (refused s.number s.extra)
 
 -- a call's reply, logged at a place of a buffer; the allowance is word 4 of the image that an open leaves
 abbrev replied : Image → Call → List ℕ → ℕ → Reply
-replied img (commit_call ops n) log at = reply (said (commit_of img ops n log at).answer) done
+replied img (commit_call ops) log at = reply (said (commit_of img ops log at).answer) done
 replied img (single_call Open) log at = reply (said (open_of img log at).answer) (opened (get (open_of img log at).image allowance))
 replied img (single_call (Trace p)) log at = reply (said (trace_of img p log at).answer) done
 replied img (single_call Close) log at =
@@ -129,9 +128,9 @@ continued s (c ∷ cs) = continued (next s c) cs
 abbrev pub session : List Call → Session
 session cs = continued begun cs
 
--- a commit of some operations, the first of 32; the opening and the closing of a phase; a trace and a local collection of a partition; a hold and a drop
+-- a commit of some operations; the opening and the closing of a phase; a trace and a local collection of a partition; a hold and a drop
 abbrev pub committing : List Operation → Call
-committing os = commit_call (take most_operations (os ++ replicate most_operations (unroot 0))) (length os)
+committing os = commit_call os
 
 abbrev pub opening : Call
 opening = single_call Open

@@ -1,16 +1,17 @@
 -- The table of refusals: for each call its list in the paper's order, each number beside its condition, and what a list says.
-use Rattle.std.specs.Prelude.{ℕ, ◌+◌, ◌*◌, ◌≤◌, ◌<◌, List, [], ◌∷◌, ◌++◌, ◌≡◌, ◌≢◌, ◌⊎◌, length, take}
+use Rattle.std.specs.Prelude.{ℕ, ◌+◌, ◌*◌, ◌≤◌, ◌<◌, List, [], ◌∷◌, ◌++◌, ◌≡◌, ◌≢◌, ◌⊎◌, length}
 use Rattle.kinds.specs.Names.{most_partitions, most_slots, most_operations, roots, handles, fields}
 use Rattle.kinds.specs.Answers.{refuse}
 use Rattle.kinds.specs.declared.Name.{Name}
-use Rattle.kinds.specs.declared.Target.{Target}
-use Rattle.kinds.specs.declared.Target.TheVariants.{Nothing, Object}
+use Rattle.kinds.specs.Names.{Target}
+use Rattle.std.specs.Prelude.{None, Some}
 use Rattle.kinds.specs.declared.Operation.{Operation}
 use Rattle.kinds.specs.declared.Operation.TheVariants.{New, Set, Val, Root}
 use Rattle.kinds.specs.declared.Single.TheVariants.{Open, Trace, Close, Local, Hold, Drop}
-use Rattle.kinds.specs.declared.Reason.TheVariants.{Held}
-use Rattle.kinds.specs.declared.Verdict.{Verdict}
-use Rattle.kinds.specs.declared.Verdict.TheVariants.{Accepted, Refused}
+use Rattle.kinds.specs.Answers.{held_from}
+use Rattle.kinds.specs.Answers.{Verdict}
+use Rattle.std.specs.Prelude.{Ok, Err}
+use Rattle.kinds.specs.Answers.{allowed}
 use Rattle.model.specs.Image.{Image, Key, anchor, root, flag, state, field, partitions, slots, phase, count, allowance, anchors, get, length_of, size, place, place_of}
 use Rattle.model.specs.Acts.{Act, commit, single, perform}
 use Rattle.model.specs.Chains.{Leads}
@@ -28,14 +29,14 @@ pub data Row : Type 1 where
 
 -- What a list says: refused with the number and the extra answer of the first row whose condition holds; accepted where none holds.
 unfoldable pub Found : List Row → Verdict → Type 0
-Found [] u = u ≡ Accepted
+Found [] u = u ≡ allowed
 Found (given n e C ∷ rows) u = (C × (u ≡ refuse n e)) ⊎ ((C → ⊥) × Found rows u)
 Found (telling n E ∷ rows) u = ((e : ℕ) × E e × (u ≡ refuse n e)) ⊎ (((e : ℕ) → E e → ⊥) × Found rows u)
 
 -- an answer that says so: accepted with the values `v`, or refused with nothing beside (`z`)
 abbrev pub telled : {A : Type 0} → A → A → Verdict → Said A
-telled z v Accepted = accepted v
-telled z v (Refused r) = refused_with z r
+telled z v (Ok _) = accepted v
+telled z v (Err r) = refused_with z r
 
 abbrev pub First : {A : Type 0} → A → A → List Row → Said A → Type 0
 First z v rows s = (u : Verdict) × Found rows u × (s ≡ telled z v u)
@@ -61,8 +62,8 @@ abbrev pub TooLarge : ℕ → ℕ → Name → Type 0
 TooLarge P S n = (P ≤ n.partition.0) ⊎ (S ≤ n.slot.0)
 
 abbrev pub TargetTooLarge : ℕ → ℕ → Target → Type 0
-TargetTooLarge P S Nothing = ⊥
-TargetTooLarge P S (Object q) = TooLarge P S q
+TargetTooLarge P S None = ⊥
+TargetTooLarge P S (Some q) = TooLarge P S q
 
 -- 8 and 9: slot in use, object not in use
 abbrev pub InUse : ℕ → Image → Name → Type 0
@@ -72,8 +73,8 @@ abbrev pub NotInUse : ℕ → Image → Name → Type 0
 NotInUse S img n = get img (state (place S n)) ≡ 0
 
 abbrev pub TargetNotInUse : ℕ → Image → Target → Type 0
-TargetNotInUse S img Nothing = ⊥
-TargetNotInUse S img (Object q) = NotInUse S img q
+TargetNotInUse S img None = ⊥
+TargetNotInUse S img (Some q) = NotInUse S img q
 
 -- 10 and 11: phase not open, already open
 abbrev pub NotOpen : Image → Type 0
@@ -159,10 +160,10 @@ act_rows img (single (Drop h)) = given 7 0 (handles ≤ h.0) ∷ []
 abbrev pub call_rows : Image → Act → List ℕ → ℕ → List Row
 call_rows img a log at = given 1 0 (Unsound img) ∷ (act_rows img a ++ (given 17 0 (NoRoom (record_of a) at log) ∷ []))
 
--- COMMIT of the first n of 32 operations: 1, 6, the act's own list, 17
-abbrev pub commit_rows : Image → List Operation → ℕ → List ℕ → ℕ → List Row
-commit_rows img ops n log at =
-    given 1 0 (Unsound img) ∷ given 6 0 (WrongCount n) ∷ (act_rows img (commit (take n ops)) ++ (given 17 0 (NoRoom (record_of (commit (take n ops))) at log) ∷ []))
+-- COMMIT of so many operations: 1, 6, the act's own list, 17
+abbrev pub commit_rows : Image → List Operation → List ℕ → ℕ → List Row
+commit_rows img ops log at =
+    given 1 0 (Unsound img) ∷ given 6 0 (WrongCount (length ops)) ∷ (act_rows img (commit ops) ++ (given 17 0 (NoRoom (record_of (commit ops)) at log) ∷ []))
 
 -- OUTLIST 1, 7
 abbrev pub outlist_rows : Image → ℕ → List Row
@@ -180,4 +181,4 @@ why_rows img n words = object_rows img n ++ (given 18 0 (Unheld img n) ∷ given
 -- and what it says, accepted: of the foremost chain that holds an object in use, the root or the handle that it starts from, and the number of its references
 abbrev pub OfForemost : Image → Name → Chained → Type 0
 OfForemost img n v =
-    Present img n → (c : Chain) → Foremost (get img slots) img (place (get img slots) n) c → v ≡ (said_reason (Held (start_of c.start) (length c.fields))).value
+    Present img n → (c : Chain) → Foremost (get img slots) img (place (get img slots) n) c → v ≡ (said_reason (held_from (start_of c.start) (length c.fields))).value

@@ -1,18 +1,16 @@
 -- Restore sessions, as the customer asked for them: from a hold on, whatever calls but formatting and recovery are made, the object that the handle
 -- names, and all that it leads to at each moment, is in use, until that handle is dropped or takes another object.
-use Rattle.std.specs.Prelude.{ℕ, ◌<◌, List, [], ◌∷◌, ◌≡◌, ◌≢◌}
+use Rattle.std.specs.Prelude.{ℕ, true, ◌<◌, List, [], ◌∷◌, ◌≡◌, ◌≢◌, Some, Ok}
+use Rattle.std.specs.Result.{is_ok}
 use Rattle.kinds.specs.Names.{word_of}
 use Rattle.kinds.specs.declared.Name.{Name}
 use Rattle.kinds.specs.declared.Handle.{Handle}
-use Rattle.kinds.specs.declared.Target.TheVariants.{Object}
 use Rattle.kinds.specs.declared.Single.{Single}
 use Rattle.kinds.specs.declared.Single.TheVariants.{Hold}
-use Rattle.kinds.specs.declared.Verdict.TheVariants.{Accepted}
 use Rattle.model.specs.Image.{Image, handle, state, partitions, slots, get, place}
 use Rattle.model.specs.Acts.{Act}
 use Rattle.model.specs.Chains.{LeadsFrom, Step, steps, birth}
 use Rattle.model.specs.Sessions.{Retains}
-use Rattle.catalogue.specs.declared.Asked.TheVariants.{Yes}
 use Rattle.catalogue.specs.Call.{reading_of, asked_of}
 use Rattle.promises.specs.Calls.{Call, single_call, act_of, formatting, calling}
 
@@ -39,13 +37,13 @@ pub record LedBy (y : Image) (h : Handle) (m : Name) : Type 0 where
 -- an object in use, as a user sees it: its slot is not free, read is accepted, and ask answers yes
 pub record InSight (y : Image) (m : Name) : Type 0 where
   pub in_use : get y (state (place (get y slots) m)) ≢ 0
-  pub read : (reading_of y m).verdict ≡ Accepted
-  pub asked : asked_of y m ≡ Yes
+  pub read : is_ok (reading_of y m) ≡ true
+  pub asked : asked_of y m ≡ Ok true
 
 -- what is promised of the image y, after the acts since
 pub record Holds (h : Handle) (n : Name) (since : List Act) (y : Image) : Type 0 where
   -- the handle's word names the object, so that the handle leads to it
-  pub word : get y (handle h.0) ≡ word_of (Object n)
+  pub word : get y (handle h.0) ≡ word_of (Some n)
   pub names : LedBy y h n
   -- it, and all that the handle leads to now, is in use
   pub led : (m : Name) → LedBy y h m → InSight y m

@@ -2,11 +2,11 @@
 use Rattle.std.specs.Prelude.{ℕ, suc, ◌+◌, ◌*◌, ◌≤◌, ◌<◌, List, ◌∷◌, ◌++◌, ◌≡◌, ◌≢◌, length, drop}
 use Rattle.kinds.specs.Names.{roots, handles, fields, word_of}
 use Rattle.kinds.specs.declared.Name.{Name}
-use Rattle.kinds.specs.declared.Target.TheVariants.{Object}
+use Rattle.std.specs.Prelude.{Some}
 use Rattle.kinds.specs.declared.Start.{Start}
 use Rattle.kinds.specs.declared.Start.TheVariants.{Root, Handle}
-use Rattle.kinds.specs.declared.Reason.{Reason}
-use Rattle.kinds.specs.declared.Reason.TheVariants.{Held}
+use Rattle.kinds.specs.Answers.{Reason}
+use Rattle.kinds.specs.Answers.{held_from}
 use Rattle.model.specs.Image.{Image, Key, root, handle, field, slots, get, place_of}
 use Rattle.model.specs.Chains.{Leads}
 use Rattle.holding.specs.Holding.{Chain, Foremost}
@@ -20,7 +20,7 @@ pub data Explains (S : ℕ) (img : Image) (t : ℕ) (words : List ℕ) : Explain
   narrow : (c : Chain) → Foremost S img t c → length words < 2 * length c.fields + 1 → Explains S img t words (denied 19 words)
   -- the start of the foremost chain, and k; its words over the first 2k + 1, and later words as found
   held : (c : Chain) → Foremost S img t c → 2 * length c.fields + 1 ≤ length words
-      → Explains S img t words (explained (Held (start_of c.start) (length c.fields)) (words_of S c ++ drop (2 * length c.fields + 1) words))
+      → Explains S img t words (explained (held_from (start_of c.start) (length c.fields)) (words_of S c ++ drop (2 * length c.fields + 1) words))
 
 -- a start is a root or a handle of the image, and its word
 abbrev pub StartIn : Start → Type 0
@@ -33,7 +33,7 @@ start_key (Handle h) = handle h.0
 
 -- from the name w on, k times a field and a name: the field, of the object that the name before it names, holds the name; the last names the object n
 pub data Spelled (img : Image) (n : Name) : ℕ → ℕ → List ℕ → Type 0 where
-  last : {w : ℕ} {rest : List ℕ} → w ≡ word_of (Object n) → Spelled img n 0 w rest
+  last : {w : ℕ} {rest : List ℕ} → w ≡ word_of (Some n) → Spelled img n 0 w rest
   on : {k w f v : ℕ} {rest : List ℕ} → w ≢ 0 → f < fields → get img (field (place_of (get img slots) w) f) ≡ v → Spelled img n k v rest → Spelled img n (suc k) w (f ∷ v ∷ rest)
 
 -- the words spell k references, held now, from a root or a handle to the object n: its word is the first name

@@ -1,6 +1,6 @@
 -- Reached: whatever calls are made from any words, in whatever order, with any arguments, log buffers and places each time.
 use Rattle.std.specs.Prelude.{ℕ, true, List, [], ◌∷◌, ◌≡◌, ◌≢◌, ◌⊎◌, replicate}
-use Rattle.kinds.specs.declared.Verdict.TheVariants.{Accepted}
+use Rattle.kinds.specs.Answers.{allowed}
 use Rattle.model.specs.Image.{Image, partitions, slots, get, length_of}
 use Rattle.model.specs.Acts.{Act}
 use Rattle.model.specs.History.{Run}
@@ -35,7 +35,7 @@ pub data World (w : Image) : Origin → List Act → Image → Type 0 where
   recovered : {o : Origin} {acts : List Act} {x : Image} → World w o acts x
       → (log : List ℕ) (h : Rule) (kept : List Act) → Kept log (length_of x) h kept → World w (logged h) kept (recover_of log (length_of x)).image
   unrecovered : {o : Origin} {acts : List Act} {x : Image} → World w o acts x
-      → (log : List ℕ) → (recover_of log (length_of x)).verdict ≢ Accepted → World w emptied [] (recover_of log (length_of x)).image
+      → (log : List ℕ) → (recover_of log (length_of x)).verdict ≢ allowed → World w emptied [] (recover_of log (length_of x)).image
 
 -- never formatted: the words as they were lent, or what accepted acts made of them, which then were a sound image
 pub record Lent (w : Image) (acts : List Act) (x : Image) : Type 0 where

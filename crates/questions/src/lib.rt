@@ -11,6 +11,7 @@ ghost use Rattle.model.specs.Questions as Questions;
 ghost use Rattle.image.specs.Within.{Within};
 
 use kinds::{Field, Name, Record};
+use todo::Notes;
 
 // Field k of place j.
 fn field_at(img: &[u32], j: usize, k: usize) -> Field
@@ -44,14 +45,8 @@ pub fn ask(img: &[u32], p: usize, s: usize, n: Name) -> bool
     requires n_bound { place s n < p * s }
     ensures { result ≡ Questions.ask p s img.now (place s n) }
 {
-    let j = image::place(n, s);
-    let all = p * s;
-    let mut marks = image::zeros();
-    let mut list = image::zeros();
-    let m = todo::note_anchors(img, p, s, 0, all, &mut marks, &mut list, 0);
-    todo::spread(img, p, s, 0, all, &mut marks, &mut list, m);
-    if marks[j] == 1 {
-        return true;
-    }
-    false
+    let mut notes = Notes::new(0, p * s);
+    notes.note_anchors(img, p, s);
+    notes.spread(img, p, s);
+    notes.marks[image::place(n, s)] == 1
 }

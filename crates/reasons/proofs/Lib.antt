@@ -1,3 +1,4 @@
+pub mod Tables
 pub mod Queueing
 pub mod Sooner
 pub mod Trails

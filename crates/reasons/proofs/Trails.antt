@@ -1,6 +1,6 @@
 -- The way up from a place that is met is the foremost chain to it, also where the walk has stopped early.
 -- Assumes nothing.
-use Prim.Native.Nat.{ℕ, zero, suc, ◌≤◌, ◌<◌}
+use Prim.Native.Nat.{ℕ, zero, suc, ◌-◌, ◌≤◌, ◌<◌}
 use mathlib.Core.Path.{◌≡◌, refl, sym, ap, ◌∙◌, subst}
 use mathlib.Core.Logic.{◌≢◌, ⊎_elim}
 use mathlib.Core.List.{List, [], ◌∷◌, ◌++◌, append-nil}
@@ -12,70 +12,79 @@ use Rattle.loops.proofs.Tests.{lt_or_ge}
 use Rattle.model.specs.Image.{Image, Key, anchor, anchors, get, place_of, Holder}
 use Rattle.model.specs.Chains.{Names, Along}
 use Rattle.holding.specs.Holding.{Chain, Follows, Holds, Foremost, last, on}
-use Rattle.holding.specs.Finding.{anchor_to, fields_along, distance, chain_of}
-use Rattle.reasons.specs.Queue.{Row, key, Queue, Trail, top, then, trail_chain}
+use Rattle.holding.specs.Finding.{field_to, anchor_to, fields_along, distance, chain_of}
+use Rattle.reasons.specs.declared.queue.Queue.{Queue}
+use Rattle.reasons.specs.Queue.{Row, key, Levels, Trail, top, then, IsBefore, trail_chain}
 use Rattle.holding.proofs.Order.{follows_length, foremost_once}
-use Rattle.holding.proofs.Found.{anchor_in, anchor_is, anchor_low, fields_along_lem, fields_low, follows_then, distance_in, found_foremost}
+use Rattle.holding.proofs.Found.{field_in, anchor_in, anchor_is, anchor_low, fields_along_lem, fields_low, follows_then, distance_in, found_foremost}
 use Rattle.reasons.proofs.Sooner.{Sooner, NotLater, now, first, equal, sooner, sooner_not_later, sooner_then, sooner_last, sooner_more, sooner_one, not_later_length, not_later_upto, not_later_then}
 
-module _ {rows list : List ℕ} where
-  pub trail_met : {j h : ℕ} {ns : List ℕ} → Trail rows list j h ns → 0 < get_or rows j 0
+module _ {queue : Queue} where
+  pub trail_met : {j h : ℕ} {ns : List ℕ} → Trail queue j h ns → 0 < get_or queue.rows j 0
   trail_met (top z e) = omega arith
   trail_met (then z p e) = omega arith
 
   -- a place has one way up
-  pub trail_once : {j h h' : ℕ} {ns ns' : List ℕ} → Trail rows list j h ns → Trail rows list j h' ns' → (h ≡ h') × (ns ≡ ns')
+  pub trail_once : {j h h' : ℕ} {ns ns' : List ℕ} → Trail queue j h ns → Trail queue j h' ns' → (h ≡ h') × (ns ≡ ns')
   trail_once (top z e) (top w d) = (e ∙ sym d, refl)
   trail_once (top z e) (then w r d) = absurd (omega arith)
   trail_once (then z p e) (top w d) = absurd (omega arith)
   trail_once {j} {h' = h'} (then {b = b} z p e) (then {b = c} {ns = ms} w r d) =
       let s : b ≡ c = omega arith in
-      let o = trail_once p (subst (λ (v : ℕ). Trail rows list (get_or list v 0) h' ms) (sym s) r) in
+      let o = trail_once p (subst (λ (v : ℕ). Trail queue (get_or queue.list v 0) h' ms) (sym s) r) in
       (o.0, e ∙ ap (λ (v : List ℕ). v ++ (j ∷ [])) o.1 ∙ sym d)
 
-module _ {S places : ℕ} {img : Image} {rows list : List ℕ} {n u from : ℕ} (q : Queue S places img rows list n u from) where
-  -- what is met is in the list: it was met in one of the first n rows, it is a place, and its row names it
-  met_upto : (j : ℕ) → 0 < get_or rows j 0 → get_or rows j 0 ≤ n
-  met_upto j l = let w = q.listed j l in omega (arith, q.earlier w.0 w.1, w.1, ap (λ (v : ℕ). get_or rows v 0) w.2)
+module _ {S places : ℕ} {img : Image} {queue : Queue} {u from : ℕ} (q : Levels S places img queue u from) where
+  -- what is met is in the list: it was met in one of the first rows, it is a place, and its row names it
+  met_upto : (j : ℕ) → 0 < get_or queue.rows j 0 → get_or queue.rows j 0 ≤ queue.length
+  met_upto j l = let w = q.listed j l in omega (arith, q.earlier w.0 w.1, w.1, ap (λ (v : ℕ). get_or queue.rows v 0) w.2)
 
-  met_in : (j : ℕ) → 0 < get_or rows j 0 → j < places
+  met_in : (j : ℕ) → 0 < get_or queue.rows j 0 → j < places
   met_in j l = let w = q.listed j l in subst (λ (v : ℕ). v < places) w.2 (q.inside w.0 w.1)
 
-  met_row : (j v : ℕ) → get_or rows j 0 ≡ suc v → Row S img list v j
+  met_row : (j v : ℕ) → get_or queue.rows j 0 ≡ suc v → Row S img queue v j
   met_row j v e =
       let w = q.listed j (omega arith) in
-      subst (λ (i : ℕ). Row S img list v i) w.2 (q.held w.0 v w.1 (ap (λ (i : ℕ). get_or rows i 0) w.2 ∙ e))
+      subst (λ (i : ℕ). Row S img queue v i) w.2 (q.held w.0 v w.1 (ap (λ (i : ℕ). get_or queue.rows i 0) w.2 ∙ e))
 
   -- the place before on the way up is in the list
-  before_in : (j b : ℕ) → get_or rows j 0 ≡ suc (suc b) → b < n
+  before_in : (j b : ℕ) → get_or queue.rows j 0 ≡ suc (suc b) → b < queue.length
   before_in j b e = omega (arith, met_upto j (omega arith))
 
-  trail_below : (f j v : ℕ) → get_or rows j 0 ≡ v → 0 < v → v ≤ f → (h : ℕ) × (ns : List ℕ) × Trail rows list j h ns
+  -- one of its fields names the next
+  pub before_named : {j h : ℕ} → IsBefore queue j h → field_to S img h j < 4
+  unfolding Row
+  before_named {j} {h} b =
+      let v : ℕ = get_or queue.rows j 0 - 2 in
+      let r = met_row j (suc v) (omega (arith, b.later)) in
+      rw b.place (field_in S img (get_or queue.list v 0) j r.0 r.1 r.2)
+
+  trail_below : (f j v : ℕ) → get_or queue.rows j 0 ≡ v → 0 < v → v ≤ f → (h : ℕ) × (ns : List ℕ) × Trail queue j h ns
   trail_below zero j v e l m = absurd (omega arith)
   trail_below (suc f) j zero e l m = absurd (omega arith)
   trail_below (suc f) j (suc zero) e l m = (j, [], top e refl)
   trail_below (suc f) j (suc (suc b)) e l m =
-      let k : b < n = before_in j b e in
-      let r = trail_below f (get_or list b 0) (get_or rows (get_or list b 0) 0) refl (q.met b k) (omega (arith, q.earlier b k)) in
+      let k : b < queue.length = before_in j b e in
+      let r = trail_below f (get_or queue.list b 0) (get_or queue.rows (get_or queue.list b 0) 0) refl (q.met b k) (omega (arith, q.earlier b k)) in
       (r.0, r.1 ++ (j ∷ []), then e r.2 refl)
 
   -- every place that is met has a way up
-  pub trail_some : (j : ℕ) → 0 < get_or rows j 0 → (h : ℕ) × (ns : List ℕ) × Trail rows list j h ns
-  trail_some j l = trail_below (get_or rows j 0) j (get_or rows j 0) refl l (omega arith)
+  pub trail_some : (j : ℕ) → 0 < get_or queue.rows j 0 → (h : ℕ) × (ns : List ℕ) × Trail queue j h ns
+  trail_some j l = trail_below (get_or queue.rows j 0) j (get_or queue.rows j 0) refl l (omega arith)
 
-  trail_deep : {j h : ℕ} {ns : List ℕ} → Trail rows list j h ns → length ns < get_or rows j 0
+  trail_deep : {j h : ℕ} {ns : List ℕ} → Trail queue j h ns → length ns < get_or queue.rows j 0
   trail_deep (top z e) = omega arith
   trail_deep {j} (then {b = b} {ns = ns} z p e) = omega (arith, trail_deep p, q.earlier b (before_in j b z), ap length e, length-append ns (j ∷ []))
 
-  pub trail_short : {j h : ℕ} {ns : List ℕ} → Trail rows list j h ns → length ns < n
+  pub trail_short : {j h : ℕ} {ns : List ℕ} → Trail queue j h ns → length ns < queue.length
   trail_short {j} p = omega (arith, trail_deep p, met_upto j (trail_met p))
 
-  pub trail_head : {j h : ℕ} {ns : List ℕ} → Trail rows list j h ns → h < places
+  pub trail_head : {j h : ℕ} {ns : List ℕ} → Trail queue j h ns → h < places
   trail_head {j} (top z e) = omega (arith, met_in j (omega arith))
   trail_head (then z p e) = trail_head p
 
   -- the way up is a chain
-  pub trail_follows : {j h : ℕ} {ns : List ℕ} → Trail rows list j h ns → (anchor_to S img h < anchors) × Follows S img j h ns (fields_along S img h ns)
+  pub trail_follows : {j h : ℕ} {ns : List ℕ} → Trail queue j h ns → (anchor_to S img h < anchors) × Follows S img j h ns (fields_along S img h ns)
   unfolding Row fields_along
   trail_follows {j} {h} (top z e) =
       let w = met_row j 0 z in
@@ -86,7 +95,7 @@ module _ {S places : ℕ} {img : Image} {rows list : List ℕ} {n u from : ℕ} 
       (r.0, rw e (fields_along_lem S img (follows_then S img r.1 w.1 w.2)))
 
   -- and it is sooner than those of places met later
-  pub trail_rises : {i j h h' : ℕ} {ns ns' : List ℕ} → key rows i < key rows j → Trail rows list i h ns → Trail rows list j h' ns' → Sooner (h ∷ ns) (h' ∷ ns')
+  pub trail_rises : {i j h h' : ℕ} {ns ns' : List ℕ} → key queue i < key queue j → Trail queue i h ns → Trail queue j h' ns' → Sooner (h ∷ ns) (h' ∷ ns')
   trail_rises {h = h} {h'} l (top z e) (top w d) = let k : h < h' = omega arith in first refl (now k)
   trail_rises {j = j} {h} {h'} l (top z e) (then {ns = ns} w r d) = rw d (sooner_one h (h' ∷ ns) j [] (omega arith))
   trail_rises {j = j} l (then z p e) (top w d) = absurd (omega (arith, met_in j (omega arith), q.few))
@@ -94,44 +103,44 @@ module _ {S places : ℕ} {img : Image} {rows list : List ℕ} {n u from : ℕ} 
       rw (e, d)
       (⊎_elim
       (λ (s : b ≡ c).
-      let o = trail_once p (subst (λ (v : ℕ). Trail rows list (get_or list v 0) h' ms) (sym s) r) in
+      let o = trail_once p (subst (λ (v : ℕ). Trail queue (get_or queue.list v 0) h' ms) (sym s) r) in
       rw (o.0, o.1) (sooner_last (h' ∷ ms) (omega arith)))
       (λ (s : b < c). sooner_then i j (trail_rises (q.rise b c s (before_in j c w)) p r))
       (eq-or-lt_of_le (omega (arith, met_in j (omega arith), q.few))))
 
 -- j is met, and its way up is not later than the names m
-record Arrives (rows list : List ℕ) (j : ℕ) (m : List ℕ) : Type 0 where
+record Arrives (queue : Queue) (j : ℕ) (m : List ℕ) : Type 0 where
   head : ℕ
   names : List ℕ
-  trail : Trail rows list j head names
+  trail : Trail queue j head names
   not_later : NotLater (head ∷ names) m
 
-module _ {rows list : List ℕ} {j : ℕ} {m : List ℕ} (w : Arrives rows list j m) where
-  arrives_trail : {h : ℕ} {ns : List ℕ} → Trail rows list j h ns → NotLater (h ∷ ns) m
+module _ {queue : Queue} {j : ℕ} {m : List ℕ} (w : Arrives queue j m) where
+  arrives_trail : {h : ℕ} {ns : List ℕ} → Trail queue j h ns → NotLater (h ∷ ns) m
   arrives_trail p = let o = trail_once w.trail p in rw (← o.0, ← o.1) w.not_later
 
   arrives_length : 0 < length m
   arrives_length = omega (arith, not_later_length w.not_later)
 
 -- all that is met was met in rows that are whole
-module _ {S places : ℕ} {img : Image} {rows list : List ℕ} {n u : ℕ} (q : Queue S places img rows list n u n) where
-  met_whole : (j : ℕ) → 0 < get_or rows j 0 → get_or rows j 0 ≤ u
-  met_whole j l = let w = q.listed j l in omega (arith, q.old w.0 w.1, ap (λ (v : ℕ). get_or rows v 0) w.2)
+module _ {S places : ℕ} {img : Image} {queue : Queue} {u : ℕ} (q : Levels S places img queue u queue.length) where
+  met_whole : (j : ℕ) → 0 < get_or queue.rows j 0 → get_or queue.rows j 0 ≤ u
+  met_whole j l = let w = q.listed j l in omega (arith, q.old w.0 w.1, ap (λ (v : ℕ). get_or queue.rows v 0) w.2)
 
   -- the way up of a place earlier in the list is sooner
-  before_sooner : (b c : ℕ) {h : ℕ} {ns m : List ℕ} → b < c → c < n → Trail rows list (get_or list b 0) h ns → Arrives rows list (get_or list c 0) m → Sooner (h ∷ ns) m
+  before_sooner : (b c : ℕ) {h : ℕ} {ns m : List ℕ} → b < c → c < queue.length → Trail queue (get_or queue.list b 0) h ns → Arrives queue (get_or queue.list c 0) m → Sooner (h ∷ ns) m
   before_sooner b c l k p w = sooner_not_later (trail_rises q (q.rise b c l k) p w.trail) w.not_later
 
-  before_arrives : (b c : ℕ) {m : List ℕ} → b ≤ c → c < n → Arrives rows list (get_or list c 0) m → Arrives rows list (get_or list b 0) m
+  before_arrives : (b c : ℕ) {m : List ℕ} → b ≤ c → c < queue.length → Arrives queue (get_or queue.list c 0) m → Arrives queue (get_or queue.list b 0) m
   before_arrives b c {m} l k w =
-      ⊎_elim (λ (e : b ≡ c). subst (λ (v : ℕ). Arrives rows list (get_or list v 0) m) (sym e) w)
+      ⊎_elim (λ (e : b ≡ c). subst (λ (v : ℕ). Arrives queue (get_or queue.list v 0) m) (sym e) w)
       (λ (s : b < c).
-      let r = trail_some q (get_or list b 0) (q.met b (omega arith)) in
+      let r = trail_some q (get_or queue.list b 0) (q.met b (omega arith)) in
       record { head = r.0; names = r.1; trail = r.2; not_later = sooner (before_sooner b c s k r.2 w) })
       (eq-or-lt_of_le l)
 
   -- what is met no later than from the b-th place of the list
-  met_arrives : (v b i : ℕ) {m : List ℕ} → get_or rows i 0 ≡ v → 0 < v → v ≤ suc (suc b) → b < n → Arrives rows list (get_or list b 0) m → Arrives rows list i (m ++ (i ∷ []))
+  met_arrives : (v b i : ℕ) {m : List ℕ} → get_or queue.rows i 0 ≡ v → 0 < v → v ≤ suc (suc b) → b < queue.length → Arrives queue (get_or queue.list b 0) m → Arrives queue i (m ++ (i ∷ []))
   met_arrives zero b i e l k s w = absurd (omega arith)
   met_arrives (suc zero) b i {m} e l k s w = record { head = i; names = []; trail = top e refl; not_later = sooner (sooner_one i m i [] (arrives_length w)) }
   met_arrives (suc (suc c)) b i e l k s w =
@@ -139,25 +148,25 @@ module _ {S places : ℕ} {img : Image} {rows list : List ℕ} {n u : ℕ} (q : 
       record { head = r.head; names = r.names ++ (i ∷ []); trail = then e r.trail refl; not_later = not_later_then i r.not_later }
 
   -- one field further, in a row that is whole
-  further : (b i : ℕ) {m : List ℕ} → suc b < u → b < n → Arrives rows list (get_or list b 0) m → Along S img (get_or list b 0) i → Arrives rows list i (m ++ (i ∷ []))
+  further : (b i : ℕ) {m : List ℕ} → suc b < u → b < queue.length → Arrives queue (get_or queue.list b 0) m → Along S img (get_or queue.list b 0) i → Arrives queue i (m ++ (i ∷ []))
   unfolding Row
-  further b i l k w a = let d = q.whole (suc b) i l a in met_arrives (get_or rows i 0) b i refl d.0 d.1 k w
+  further b i l k w a = let d = q.whole (suc b) i l a in met_arrives (get_or queue.rows i 0) b i refl d.0 d.1 k w
 
   -- along a chain to t, if t is met too where the chain goes on behind the rows that are whole
-  module _ (t : ℕ) (behind : (b i : ℕ) (m x : List ℕ) → u ≤ suc b → b < n → Arrives rows list (get_or list b 0) m → Arrives rows list t (m ++ (i ∷ x))) where
-    follows_arrives : {j : ℕ} {ns fs : List ℕ} → Follows S img t j ns fs → (m : List ℕ) → Arrives rows list j m → Arrives rows list t (m ++ ns)
+  module _ (t : ℕ) (behind : (b i : ℕ) (m x : List ℕ) → u ≤ suc b → b < queue.length → Arrives queue (get_or queue.list b 0) m → Arrives queue t (m ++ (i ∷ x))) where
+    follows_arrives : {j : ℕ} {ns fs : List ℕ} → Follows S img t j ns fs → (m : List ℕ) → Arrives queue j m → Arrives queue t (m ++ ns)
     follows_arrives last m w = rw (append-nil m) w
     follows_arrives (on {j = j} {i} {k} {ns} a b c) m w =
         let d = q.listed j (trail_met w.trail) in
-        let r : Arrives rows list (get_or list d.0 0) m = subst (λ (v : ℕ). Arrives rows list v m) (sym d.2) w in
+        let r : Arrives queue (get_or queue.list d.0 0) m = subst (λ (v : ℕ). Arrives queue v m) (sym d.2) w in
         ⊎_elim
         (λ (l : suc d.0 < u).
-        subst (Arrives rows list t) (append_snoc m i ns)
+        subst (Arrives queue t) (append_snoc m i ns)
         (follows_arrives c (m ++ (i ∷ [])) (further d.0 i l d.1 r (subst (λ (v : ℕ). Along S img v i) (sym d.2) (k, a, b)))))
         (λ (l : u ≤ suc d.0). behind d.0 i m ns l d.1 r)
         (lt_or_ge (suc d.0) u)
 
-    holds_arrives : 0 < u → (c : Chain) → Holds S img t c → Arrives rows list t (c.head ∷ c.names)
+    holds_arrives : 0 < u → (c : Chain) → Holds S img t c → Arrives queue t (c.head ∷ c.names)
     unfolding Row
     holds_arrives l c h =
         let d = q.whole 0 c.head l (c.start, h.anchored, h.named) in
@@ -165,7 +174,7 @@ module _ {S places : ℕ} {img : Image} {rows list : List ℕ} {n u : ℕ} (q : 
         (record { head = c.head; names = []; trail = top (omega (arith, d.0, d.1)) refl; not_later = equal refl })
 
   -- behind the rows that are whole every chain is later than a way up
-  behind_sooner : {t h : ℕ} {ns : List ℕ} → Trail rows list t h ns → (b i : ℕ) (m x : List ℕ) → u ≤ suc b → b < n → Arrives rows list (get_or list b 0) m
+  behind_sooner : {t h : ℕ} {ns : List ℕ} → Trail queue t h ns → (b i : ℕ) (m x : List ℕ) → u ≤ suc b → b < queue.length → Arrives queue (get_or queue.list b 0) m
       → Sooner (h ∷ ns) (m ++ (i ∷ x))
   behind_sooner {h = h} (top z e) b i m x l k w = sooner_one h m i x (arrives_length w)
   behind_sooner {t} {h} (then {b = c} {ns = ns} z p e) b i m x l k w =
@@ -173,12 +182,12 @@ module _ {S places : ℕ} {img : Image} {rows list : List ℕ} {n u : ℕ} (q : 
       rw (e, ← append_snoc m i x) (sooner_more x (sooner_then t i (before_sooner c b s k p w)))
 
   module _ (some : 0 < u) where
-    trail_not_later : {t h : ℕ} {ns : List ℕ} → Trail rows list t h ns → (c : Chain) → Holds S img t c → NotLater (h ∷ ns) (c.head ∷ c.names)
+    trail_not_later : {t h : ℕ} {ns : List ℕ} → Trail queue t h ns → (c : Chain) → Holds S img t c → NotLater (h ∷ ns) (c.head ∷ c.names)
     trail_not_later {t} {h} {ns} p c k =
         arrives_trail (holds_arrives t (λ b i m x l s r. record { head = h; names = ns; trail = p; not_later = sooner (behind_sooner p b i m x l s r) }) some c k) p
 
     -- THE WAY UP IS THE FOREMOST CHAIN
-    pub trail_foremost : {j h : ℕ} {ns : List ℕ} → Trail rows list j h ns → Foremost S img j (trail_chain S img h ns)
+    pub trail_foremost : {j h : ℕ} {ns : List ℕ} → Trail queue j h ns → Foremost S img j (trail_chain S img h ns)
     trail_foremost {h = h} {ns} p =
         let w = trail_follows q p in
         let size : length ns ≡ length (fields_along S img h ns) = follows_length w.1 in
@@ -192,15 +201,15 @@ module _ {S places : ℕ} {img : Image} {rows list : List ℕ} {n u : ℕ} (q : 
 
     -- every reference leads to one of the places
     module _ (refs : (κ : Key) → Holder places κ → get img κ ≢ 0 → place_of S (get img κ) < places) where
-      pub trail_near : {j h : ℕ} {ns : List ℕ} → Trail rows list j h ns → distance places S img j < places
+      pub trail_near : {j h : ℕ} {ns : List ℕ} → Trail queue j h ns → distance places S img j < places
       trail_near {j} {h} {ns} p = distance_in places S img j refs (trail_chain S img h ns) (trail_foremost p).holds
 
       -- and so it is the chain that is asked for
-      pub trail_is : {j h : ℕ} {ns : List ℕ} → Trail rows list j h ns → trail_chain S img h ns ≡ chain_of places S img j (distance places S img j)
+      pub trail_is : {j h : ℕ} {ns : List ℕ} → Trail queue j h ns → trail_chain S img h ns ≡ chain_of places S img j (distance places S img j)
       trail_is {j} p = foremost_once _ _ (trail_foremost p) (found_foremost places S img j refs (trail_near p))
 
       -- where all rows are whole, an object that is not met has no chain
-      pub unmet : (t : ℕ) → n < u → get_or rows t 0 ≡ 0 → places ≤ distance places S img t
+      pub unmet : (t : ℕ) → queue.length < u → get_or queue.rows t 0 ≡ 0 → places ≤ distance places S img t
       unmet t l e =
           ⊎_elim
           (λ k.

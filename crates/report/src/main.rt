@@ -5,44 +5,24 @@
 // part). What is written is proved of `reporting::report`; here, that it ends and reads and writes within its spaces.
 #![tactic(auto)]
 
-ghost use Rattle.std.specs.Prelude.{◌≡◌, length};
-ghost use Rattle.reporting.specs.Report.{room};
-
-use input::{Input, Source, fail};
+use input::fail;
 use reporting::ROOM;
-use writer::Written;
-
-// One byte more than reporting::MOST.
-fn log_space() -> [u8; 32769]
-    ensures { 32769 ≡ length result }
-{
-    [0; 32769]
-}
-
-fn text_space() -> [u8; ROOM]
-    ensures { room ≡ length result }
-{
-    [0; ROOM]
-}
 
 // Writes the report of a log to standard output.
 fn tell<R: Print + Eprint>(rt: &R, log: &[u8]) {
-    let mut text = text_space();
-    match reporting::report(log, &mut text) {
-        Written::Done(k) => {
-            if let Err(e) = rt.write_all(&text[..k]) {
-                fail(rt, "report: the report cannot be written", e);
-            }
-        }
-        Written::Full => {}
+    let mut text = [0u8; ROOM];
+    if let Some(k) = reporting::report(log, &mut text)
+        && let Err(e) = rt.write_all(&text[..k])
+    {
+        fail(rt, "report: the report cannot be written", e);
     }
 }
 
 fn main(rt: HostRuntime) {
-    let mut log = log_space();
-    let mut source = Source::new(rt.stdin());
-    match input::read_all(&mut source, &mut log) {
-        Input::Whole(n) => tell(&rt, &log[..n]),
-        Input::Failed => fail(&rt, "report: the log cannot be read", source.error()),
+    // One byte more than reporting::MOST.
+    let mut log = [0u8; 32769];
+    match input::read_all(&mut rt.stdin(), &mut log) {
+        Ok(n) => tell(&rt, &log[..n]),
+        Err(e) => fail(&rt, "report: the log cannot be read", e),
     }
 }

@@ -2,7 +2,7 @@
 -- Assumes nothing.
 use Prim.Native.Nat.{ℕ, ◌+◌, ◌-◌, ◌*◌, ◌≤◌, ◌<◌}
 use native.Mathlib.Omega.{arith}
-use mathlib.Core.Path.{◌≡◌, sym, ap, subst, ◌∙◌}
+use mathlib.Core.Path.{◌≡◌, sym, ap, ◌∙◌}
 use mathlib.Core.Bool.{Bool, true, false, cond}
 use mathlib.Core.List.{List, [], ◌∷◌, ◌++◌}
 use lib.Dec.{ltb, leb}
@@ -11,9 +11,7 @@ use lib.Seq.{sets-eq, length-take-le}
 use borrow.Author.Tests.{lt-ltb, le-ltb, le-leb, lt-leb}
 use Rattle.kinds.specs.Editions.{longest}
 use Rattle.kinds.specs.Names.{most_partitions, most_slots}
-use Rattle.kinds.specs.declared.Refusal.{Refusal}
-use Rattle.kinds.specs.declared.Verdict.{Verdict}
-use Rattle.kinds.specs.declared.Verdict.TheVariants.{Accepted, Refused}
+use Rattle.kinds.specs.Answers.{Verdict}
 use Rattle.model.specs.Image.{Image, phase, get, size}
 use Rattle.journal.proofs.Locating.{byte_most}
 use Rattle.journal.specs.Recover.{Recovered, recover_of, byte_of}
@@ -22,15 +20,13 @@ use Rattle.journal.proofs.Salvaging.{kept_within, refused_within}
 use Rattle.lines.proofs.Firsts.{announced_longest}
 use Rattle.lines.specs.Cursor.{body, after, limit_of}
 use Rattle.lines.specs.Print.{Put, Bytes}
-use Rattle.writer.specs.declared.Written.{Written}
-use Rattle.writer.specs.declared.Written.TheVariants.{Done, Full}
 use Rattle.writer.specs.Write.{Wrote, wrote, splice}
-use Rattle.recovery.specs.Answers.{out, byte_in}
-use Rattle.recovery.specs.declared.Recovery.{Recovery}
-use Rattle.recovery.specs.declared.Recovery.TheVariants.{Kept, Refused as NotKept}
+use Rattle.std.specs.Prelude.{Option, None, Some, IfSome, Ok, Err}
+use Rattle.recovery.specs.declared.Fault.{Fault}
+use Rattle.recovery.specs.Answers.{out, byte_in, Recovery}
 use Rattle.reporting.specs.declared.asked.Asked.{Asked}
-use Rattle.reporting.specs.Report.{most_bytes, most_words, room, answer_word, line_word, byte_word, kept_word, phase_word, toolong_word, row, objects, refused_text, kept_text, told, shown, asked_of, lent, recovered_text, report_of, reported}
-use Rattle.reporting.proofs.Headings.{Bounded, asked_bounded}
+use Rattle.reporting.specs.Report.{most_bytes, most_words, room, answer_word, line_word, byte_word, kept_word, phase_word, toolong_word, row, objects, refused_text, kept_text, told, shown, asked_of, recovered_for, recovered_text, report_of, reported}
+use Rattle.reporting.proofs.Headings.{Bounded, log_bounded, asked_bounded}
 use Rattle.reporting.proofs.Texts.{row_length, objects_length, places_most}
 
 refused_length : (n l b : ℕ) → length (refused_text n l b) ≤ room
@@ -55,14 +51,16 @@ unfolding shown
 shown_length P S log r hp hs = by r.verdict
   where
     by : (v : Verdict) → length (told P S v (byte_of log v) r.kept r.image) ≤ room
-    by Accepted = kept_length P S r.kept r.image hp hs
-    by (Refused q) = refused_length q.number q.extra (byte_of log (Refused q))
+    by (Ok _) = kept_length P S r.kept r.image hp hs
+    by (Err q) = refused_length q.number q.extra (byte_of log (Err q))
 
 recovered_length : (log : List ℕ) → length (recovered_text log) ≤ room
 unfolding recovered_text
-recovered_length log =
-    let a = asked_bounded log in
-    shown_length (asked_of log).partitions (asked_of log).slots log (recover_of log (lent log)) a.few a.narrow
+recovered_length log = by (asked_of log) (log_bounded log)
+  where
+    by : (o : Option Asked) → IfSome o Bounded → length (recovered_for log o) ≤ room
+    by None b = shown_length 0 0 log (recover_of log 0) (omega arith) (omega arith)
+    by (Some a) b = shown_length a.partitions a.slots log (recover_of log a.words) b.few b.narrow
 
 -- NO REPORT has more than 65,536 bytes
 pub report_length : (log : List ℕ) → length (report_of log) ≤ room
@@ -83,11 +81,11 @@ unfolding report_of
 report_short log h = rw (le-ltb most_bytes (length log) h)
 
 -- the two ends of the call
-pub reported_full : (log out : List ℕ) → length out < room → wrote Full out ≡ reported log out
+pub reported_full : (log out : List ℕ) → length out < room → wrote None out ≡ reported log out
 unfolding reported
 reported_full log out h = rw (lt-leb room (length out) h)
 
-pub reported_done : (log out after : List ℕ) (r : ℕ) → room ≤ length out → Put out after 0 (report_of log) r → wrote (Done r) after ≡ reported log out
+pub reported_done : (log out after : List ℕ) (r : ℕ) → room ≤ length out → Put out after 0 (report_of log) r → wrote (Some r) after ≡ reported log out
 unfolding reported splice
 reported_done log out after r h p =
     let e : after ≡ take 0 out ++ (report_of log ++ drop (0 + length (report_of log)) out) = p.bytes ∙ sets-eq (report_of log) out 0 (omega (arith, report_length log)) in
@@ -101,35 +99,40 @@ module _ (log : List ℕ) (len : ℕ) (r : Recovery) (y : Image) (e : out r y �
 
   -- the kept length is within the log, and there is an image; a refusal's line is at most one more than there are bytes
   module _ (b : Bytes log) where
-    pub kept_small : {k : ℕ} → r ≡ Kept k → k ≤ length log
-    kept_small {k} q = omega (arith, ap (λ (z : Recovered). z.kept) (answered (Kept k) q), kept_within log len b)
+    pub kept_small : {k : ℕ} → r ≡ Ok k → k ≤ length log
+    kept_small {k} q = omega (arith, ap (λ (z : Recovered). z.kept) (answered (Ok k) q), kept_within log len b)
 
-    pub kept_some : {k : ℕ} → r ≡ Kept k → 0 < len
+    pub kept_some : {k : ℕ} → r ≡ Ok k → 0 < len
     unfolding size
-    kept_some {k} q = omega (arith, (any_bytes log len b (sym (ap (λ (z : Recovered). z.verdict) (answered (Kept k) q)))).kept.before.fits)
+    kept_some {k} q = omega (arith, (any_bytes log len b (sym (ap (λ (z : Recovered). z.verdict) (answered (Ok k) q)))).kept.before.fits)
 
-    pub line_small : {n : Refusal} {k : ℕ} → r ≡ NotKept n k → n.extra ≤ length log + 1
-    line_small {n} {k} q = refused_within (refused_so log len b n.number n.extra (sym (ap (λ (z : Recovered). z.verdict) (answered (NotKept n k) q))))
+    pub line_small : {f : Fault} → r ≡ Err f → f.refusal.extra ≤ length log + 1
+    line_small {f} q = refused_within (refused_so log len b f.refusal.number f.refusal.extra (sym (ap (λ (z : Recovered). z.verdict) (answered (Err f) q))))
 
-  pub kept_shown : (P S k : ℕ) → r ≡ Kept k → kept_text P S k y ≡ shown P S log (recover_of log len)
+  pub kept_shown : (P S k : ℕ) → r ≡ Ok k → kept_text P S k y ≡ shown P S log (recover_of log len)
   unfolding shown
-  kept_shown P S k q = ap (shown P S log) (answered (Kept k) q)
+  kept_shown P S k q = ap (shown P S log) (answered (Ok k) q)
 
-  module _ (n : Refusal) (k : ℕ) (q : r ≡ NotKept n k) (f : byte_in r ≡ byte_of log (recover_of log len).verdict) where
-    byte_answered : byte_in (NotKept n k) ≡ byte_of log (Refused n)
-    byte_answered = ap byte_in (sym q) ∙ f ∙ ap (λ (z : Recovered). byte_of log z.verdict) (sym (answered (NotKept n k) q))
+  module _ (f : Fault) (q : r ≡ Err f) (g : byte_in r ≡ byte_of log (recover_of log len).verdict) where
+    byte_answered : f.byte ≡ byte_of log (Err f.refusal)
+    byte_answered = ap byte_in (sym q) ∙ g ∙ ap (λ (z : Recovered). byte_of log z.verdict) (sym (answered (Err f) q))
 
-    pub byte_small : k ≤ longest
-    byte_small = omega (arith, byte_answered, byte_most (limit_of log) n.number (after (n.extra - 1) log), announced_longest (body log))
+    pub byte_small : f.byte ≤ longest
+    byte_small = omega (arith, byte_answered, byte_most (limit_of log) f.refusal.number (after (f.refusal.extra - 1) log), announced_longest (body log))
 
-    pub refused_shown : (P S : ℕ) → refused_text n.number n.extra k ≡ shown P S log (recover_of log len)
+    pub refused_shown : (P S : ℕ) → refused_text f.refusal.number f.refusal.extra f.byte ≡ shown P S log (recover_of log len)
     unfolding shown
-    refused_shown P S = ap (refused_text n.number n.extra) byte_answered ∙ ap (shown P S log) (answered (NotKept n k) q)
+    refused_shown P S = ap (refused_text f.refusal.number f.refusal.extra) byte_answered ∙ ap (shown P S log) (answered (Err f) q)
+
+-- nothing is lent
+pub none_report : (log : List ℕ) → None ≡ asked_of log → length log ≤ most_bytes → shown 0 0 log (recover_of log 0) ≡ report_of log
+unfolding recovered_text
+none_report log e h = ap (recovered_for log) e ∙ report_short log h
 
 -- the part of the largest image that is lent
-module _ (log : List ℕ) {a : Asked} (e : a ≡ asked_of log) (img : List ℕ) (l : length img ≡ most_words) where
+module _ (log : List ℕ) {a : Asked} (e : Some a ≡ asked_of log) (img : List ℕ) (l : length img ≡ most_words) where
   bounds : Bounded a
-  bounds = subst Bounded (sym e) (asked_bounded log)
+  bounds = asked_bounded log e
 
   pub words_fit : a.words ≤ length img
   words_fit = omega (arith, bounds.most)
@@ -138,26 +141,26 @@ module _ (log : List ℕ) {a : Asked} (e : a ≡ asked_of log) (img : List ℕ) 
   words_lent = length-take-le a.words img words_fit
 
   pub lent_whole : (a.partitions ≤ most_partitions) × (a.slots ≤ most_slots) × (0 < length (take a.words img) → length (take a.words img) ≡ size a.partitions a.slots)
-  lent_whole = (bounds.few, bounds.narrow, λ h. words_lent ∙ bounds.whole (omega (arith, words_lent)))
+  lent_whole = (bounds.few, bounds.narrow, λ h. words_lent ∙ bounds.whole)
 
   pub lent_report : length log ≤ most_bytes → shown a.partitions a.slots log (recover_of log (length (take a.words img))) ≡ report_of log
   unfolding recovered_text
-  lent_report h = rw (words_lent, e) (report_short log h)
+  lent_report h = rw words_lent (ap (recovered_for log) e ∙ report_short log h)
 
 -- what the call says it wrote is at most the room
-abbrev length_of : Written → ℕ
-length_of (Done k) = k
-length_of Full = 0
+abbrev length_of : Option ℕ → ℕ
+length_of (Some k) = k
+length_of None = 0
 
 reported_length : (log out : List ℕ) → length_of (reported log out).answer ≤ room
 unfolding reported
 reported_length log out = by (leb room (length out))
   where
-    by : (b : Bool) → length_of (cond b (wrote (Done (length (report_of log))) (splice out 0 (report_of log))) (wrote Full out)).answer ≤ room
+    by : (b : Bool) → length_of (cond b (wrote (Some (length (report_of log))) (splice out 0 (report_of log))) (wrote None out)).answer ≤ room
     by true = report_length log
     by false = omega arith
 
-pub done_fits : (log out after : List ℕ) (a : Written) (k : ℕ) → wrote a after ≡ reported log out → a ≡ Done k → k ≤ room
+pub done_fits : (log out after : List ℕ) (a : Option ℕ) (k : ℕ) → wrote a after ≡ reported log out → a ≡ Some k → k ≤ room
 done_fits log out after a k e d =
     let h : k ≡ length_of (reported log out).answer = ap length_of (sym d) ∙ ap (λ (w : Wrote). length_of w.answer) e in
     omega (arith, reported_length log out)

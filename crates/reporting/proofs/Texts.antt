@@ -1,16 +1,17 @@
 -- Laws of the report's lines: how long they are, and how they are put one after the other.
 -- Assumes nothing.
-use Prim.Native.Nat.{ℕ, zero, suc, ◌+◌, ◌*◌, ◌/◌, ◌%◌, ◌≤◌, ◌<◌}
+use Prim.Native.Nat.{ℕ, zero, suc, ◌+◌, ◌-◌, ◌*◌, ◌/◌, ◌%◌, ◌≤◌, ◌<◌}
 use native.Mathlib.Omega.{arith}
 use native.Mathlib.Decide.{dec_lt}
 use native.Mathlib.Nat.{div-lt_iff_lt-mul, mod-lt, mul-le-mul_right}
 use native.Mathlib.Numerals.{add-one}
-use mathlib.Core.Path.{◌≡◌, ap, subst, ◌∙◌}
+use mathlib.Core.Path.{◌≡◌, refl, sym}
 use mathlib.Core.Bool.{Bool, true, false, cond}
 use mathlib.Core.Logic.{◌≢◌}
-use mathlib.Core.List.{List, [], ◌∷◌, ◌++◌}
-use lib.ListN.{length, set, take, get_or, length-append}
-use lib.Seq.{take-suc, take_all}
+use mathlib.Core.List.{List, [], ◌∷◌, ◌++◌, append_assoc}
+use lib.ListN.{length, length-append}
+use lib.Seq.{sets-eq, drop-drop}
+use borrow.Rule.Slice.PartMut.{put_mid}
 use borrow.Author.Tests.{eq-eqb, ne_eqb}
 use Rattle.kinds.specs.Names.{most_partitions, most_slots, most_places}
 use Rattle.lines.proofs.Digits.{decimal_length, decimal_length_small, decimal_length_step}
@@ -18,7 +19,7 @@ use Rattle.lines.specs.Decimal.{decimal}
 use Rattle.lines.specs.Print.{Put}
 use Rattle.model.specs.Acts.{used}
 use Rattle.model.specs.Image.{Image, state, payload, get}
-use Rattle.writer.proofs.Puts.{put_byte, put_then, put_length}
+use Rattle.writer.proofs.Puts.{put_then, put_length}
 use Rattle.reporting.specs.Report.{object_bytes, object_word, spaced, row, object_at, objects}
 
 -- a number has at most ten digits
@@ -91,14 +92,11 @@ objects_length S (suc j) y h k =
     let b : length (object_at S y j) ≤ object_bytes = place_length S j h (omega arith) y in
     omega (arith, length-append (objects S y j) (object_at S y j))
 
--- a word's next byte
-pub put_letter : (l m word : List ℕ) (at i : ℕ) → i < length word → Put l m at (take i word) (at + i) → Put l (set m (at + i) (get_or word i 0)) at (take (i + 1) word) (at + (i + 1))
-put_letter l m word at i h p =
-    let e : at + i + 1 ≡ at + (i + 1) = omega arith in
-    rw (add-one, take-suc word i 0 h) (subst (λ (k : ℕ). Put l (set m (at + i) (get_or word i 0)) at (take i word ++ (get_or word i 0 ∷ [])) k) (e ∙ ap (λ (k : ℕ). at + k) (add-one i)) (put_then p (put_byte m (at + i) (get_or word i 0))))
-
-pub put_word_lem : (l m word : List ℕ) (at i : ℕ) → length word ≤ i → Put l m at (take i word) (at + i) → Put l m at word (at + i)
-put_word_lem l m word at i h p = subst (λ (xs : List ℕ). Put l m at xs (at + i)) (take_all i word h) p
+-- a word copied to its place
+pub put_copied : (l ys word : List ℕ) (at : ℕ) → ys ≡ word → at + length word ≤ length l → Put l (put_mid at (at + length word - at) l ys) at word (at + length word)
+put_copied l ys word at e h =
+    let k : at + length word - at ≡ length word = omega arith in
+    record { next = refl; bytes = rw (e, k, drop-drop, ← append_assoc) (sym (sets-eq word l at h)) }
 
 -- what is said of a place, by the word that is its state
 module _ (S : ℕ) (y : Image) (j : ℕ) where

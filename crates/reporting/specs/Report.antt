@@ -1,9 +1,9 @@
 -- The report: its bytes, as a definition of the log.
-use Rattle.std.specs.Prelude.{ℕ, zero, suc, ◌+◌, ◌*◌, ◌/◌, ◌%◌, Bool, cond, List, [], ◌∷◌, ◌++◌, leb, ltb, length}
+use Rattle.std.specs.Prelude.{ℕ, zero, suc, ◌+◌, ◌*◌, ◌/◌, ◌%◌, Bool, cond, List, [], ◌∷◌, ◌++◌, leb, ltb, length, Option, Some, None}
 use Rattle.loops.specs.Loop.{both}
 use Rattle.kinds.specs.Names.{most_partitions, most_slots}
-use Rattle.kinds.specs.declared.Verdict.{Verdict}
-use Rattle.kinds.specs.declared.Verdict.TheVariants.{Accepted, Refused}
+use Rattle.kinds.specs.Answers.{Verdict}
+use Rattle.std.specs.Prelude.{Ok, Err}
 use Rattle.lines.specs.declared.cursor.Step.{Step}
 use Rattle.lines.specs.declared.cursor.Step.TheVariants.{Line as ALine, Tail}
 use Rattle.lines.specs.declared.line.Line.{Line}
@@ -14,7 +14,6 @@ use Rattle.model.specs.Acts.{used}
 use Rattle.model.specs.Image.{Image, front, stride, payload, phase, get, size}
 use Rattle.model.specs.Judge.{in_limits}
 use Rattle.journal.specs.Recover.{Recovered, recover_of, byte_of}
-use Rattle.writer.specs.declared.Written.TheVariants.{Done, Full}
 use Rattle.writer.specs.Record.{Rule, rule, terms_of}
 use Rattle.writer.specs.Write.{Wrote, wrote, splice}
 use Rattle.reporting.specs.declared.asked.Asked.{Asked}
@@ -95,49 +94,55 @@ kept_text P S k y = row answer_word (0 ∷ []) ++ (row kept_word (k ∷ []) ++ (
 
 -- by the verdict, with the byte beside it
 abbrev pub told : ℕ → ℕ → Verdict → ℕ → ℕ → Image → List ℕ
-told P S Accepted b k y = kept_text P S k y
-told P S (Refused r) b k y = refused_text r.number r.extra b
+told P S (Ok _) b k y = kept_text P S k y
+told P S (Err r) b k y = refused_text r.number r.extra b
 
 -- what recovery answers of a log, of a heap of P partitions of S slots
 unfoldable pub shown : ℕ → ℕ → List ℕ → Recovered → List ℕ
 shown P S log r = told P S r.verdict (byte_of log r.verdict) r.kept r.image
 
--- what a first line asks for: P, S and the words of their image, where they are in its edition's range; else nothing
-abbrev pub nothing_asked : Asked
-nothing_asked = record { partitions = 0; slots = 0; words = 0 }
-
 -- S is at most what the edition decides, and P and S are within the limits
 abbrev pub in_range : Rule → Bool
 in_range h = both (leb h.S (terms_of h).slots) (in_limits h.P h.S)
 
--- a heading's P and S
-unfoldable pub heap_asked : Rule → Asked
-heap_asked h = cond (in_range h) (record { partitions = h.P; slots = h.S; words = size h.P h.S }) nothing_asked
+-- a heading's P and S and the words of their image, where they are in its edition's range; else nothing
+unfoldable pub heap_asked : Rule → Option Asked
+heap_asked h = cond (in_range h) (Some (record { partitions = h.P; slots = h.S; words = size h.P h.S })) None
 
 -- only a heading asks
-abbrev pub asked_by : Line → Asked
+abbrev pub asked_by : Line → Option Asked
 asked_by (Heading e P S) = heap_asked (rule e P S)
-asked_by (Operation o) = nothing_asked
-asked_by (End k) = nothing_asked
-asked_by (SingleLine a) = nothing_asked
-asked_by Bad = nothing_asked
+asked_by (Operation o) = None
+asked_by (End k) = None
+asked_by (SingleLine a) = None
+asked_by Bad = None
 
 -- a log without a complete line asks for nothing
-abbrev pub asked_at : Step → Asked
+abbrev pub asked_at : Step → Option Asked
 asked_at (ALine l next) = asked_by l
-asked_at (Tail n) = nothing_asked
+asked_at (Tail n) = None
 
 -- a log asks for what its first line does
-unfoldable pub asked_of : List ℕ → Asked
+unfoldable pub asked_of : List ℕ → Option Asked
 asked_of log = asked_at (step_of (limit_of log) log 0)
+
+-- the words that are lent where so much is asked for; none where nothing is
+abbrev pub words_of : Option Asked → ℕ
+words_of None = 0
+words_of (Some a) = a.words
 
 -- the words that the report lends to recovery: as many as the heading asks for, so that it is refused with 2 for P or S alone
 abbrev pub lent : List ℕ → ℕ
-lent log = (asked_of log).words
+lent log = words_of (asked_of log)
+
+-- what is said of a log that asks for so much: what recovery answers into the words that are lent
+abbrev pub recovered_for : List ℕ → Option Asked → List ℕ
+recovered_for log None = shown 0 0 log (recover_of log 0)
+recovered_for log (Some a) = shown a.partitions a.slots log (recover_of log a.words)
 
 -- what is said of a log that is not too long
 unfoldable pub recovered_text : List ℕ → List ℕ
-recovered_text log = shown (asked_of log).partitions (asked_of log).slots log (recover_of log (lent log))
+recovered_text log = recovered_for log (asked_of log)
 
 -- THE REPORT of a log
 unfoldable pub report_of : List ℕ → List ℕ
@@ -145,4 +150,4 @@ report_of log = cond (ltb most_bytes (length log)) (row toolong_word []) (recove
 
 -- the call: the report at the start of the lent bytes, and its length; nothing where fewer than `room` are lent
 unfoldable pub reported : List ℕ → List ℕ → Wrote
-reported log out = cond (leb room (length out)) (wrote (Done (length (report_of log))) (splice out 0 (report_of log))) (wrote Full out)
+reported log out = cond (leb room (length out)) (wrote (Some (length (report_of log))) (splice out 0 (report_of log))) (wrote None out)

@@ -19,21 +19,12 @@ ghost use Rattle.reporting.specs.Report.{most_bytes, most_words, room, shown, re
 use crate::asked::asked_of;
 use crate::rows::{put_kept, put_refused, put_toolong};
 use image::WORDS;
-use recovery::Recovery;
-use writer::Written;
 
 // The most bytes of a log.
 pub const MOST: usize = 32768;
 
 // The bytes that a report is lent.
 pub const ROOM: usize = 65536;
-
-// Room for the largest image.
-fn image() -> [u32; WORDS]
-    ensures { length result ≡ most_words }
-{
-    [0; WORDS]
-}
 
 // What recovery into the lent words answers; they are as many as P and S ask for, or none.
 fn put_recovered(out: &mut [u8], img: &mut [u32], log: &[u8], p: usize, s: usize) -> usize
@@ -42,8 +33,11 @@ fn put_recovered(out: &mut [u8], img: &mut [u32], log: &[u8], p: usize, s: usize
     ensures { Put out.old out.new 0 (shown p s log.now (recover_of log.now (length img.old))) result }
 {
     match recovery::recover(&mut *img, log) {
-        Recovery::Kept(k) => put_kept(out, &*img, p, s, k as u32),
-        Recovery::Refused(r, b) => put_refused(out, r.number, r.extra as u32, b as u32),
+        Ok(k) => put_kept(out, &*img, p, s, k as u32),
+        Err(f) => {
+            let r = f.refusal;
+            put_refused(out, r.number, r.extra as u32, f.byte as u32)
+        }
     }
 }
 
@@ -54,18 +48,19 @@ fn put_report(out: &mut [u8], log: &[u8]) -> usize
     if log.len() > MOST {
         return put_toolong(out);
     }
-    let a = asked_of(log);
-    let words = a.words;
-    let mut img = image();
-    put_recovered(out, &mut img[..words], log, a.partitions, a.slots)
+    let mut img = [0u32; WORDS];
+    match asked_of(log) {
+        Some(a) => put_recovered(out, &mut img[..a.words], log, a.partitions, a.slots),
+        None => put_recovered(out, &mut [], log, 0, 0),
+    }
 }
 
-// The report of a log at the start of the lent bytes, and its length; Full, and nothing written, where fewer than ROOM are lent.
-pub fn report(log: &[u8], out: &mut [u8]) -> Written
+// The report of a log at the start of the lent bytes, and its length; None, and nothing written, where fewer than ROOM are lent.
+pub fn report(log: &[u8], out: &mut [u8]) -> Option<usize>
     ensures { wrote result out.new ≡ reported log.now out.old }
 {
     if out.len() < ROOM {
-        return Written::Full;
+        return None;
     }
-    Written::Done(put_report(out, log))
+    Some(put_report(out, log))
 }

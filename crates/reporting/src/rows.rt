@@ -12,12 +12,9 @@ fn put_text(out: &mut [u8], at: usize, word: &[u8]) -> usize
     requires { at + length word.now ≤ length out.old }
     ensures { Put out.old out.new at word.now result }
 {
-    let mut i = 0;
-    while i < word.len() {
-        out[at + i] = word[i];
-        i += 1;
-    }
-    at + i
+    let next = at + word.len();
+    out[at..next].copy_from_slice(word);
+    next
 }
 
 // One space and a number.
@@ -25,7 +22,7 @@ fn put_spaced(out: &mut [u8], at: usize, n: u32) -> usize
     requires { at + length (spaced n) ≤ length out.old }
     ensures { Put out.old out.new at (spaced n) result }
 {
-    out[at] = 32;
+    out[at] = b' ';
     put_number(out, at + 1, n)
 }
 
@@ -35,7 +32,7 @@ fn put_last(out: &mut [u8], at: usize, n: u32) -> usize
     ensures { Put out.old out.new at (ending (n ∷ [])) result }
 {
     let next = put_spaced(out, at, n);
-    out[next] = 10;
+    out[next] = b'\n';
     next + 1
 }
 
@@ -77,10 +74,8 @@ fn put_objects(out: &mut [u8], at: usize, img: &[u32], s: usize, n: usize) -> us
     ensures { Put out.old out.new at (objects s img.now n) result }
 {
     let mut next = at;
-    let mut j = 0;
-    while j < n {
+    for j in 0..n {
         next = put_place(&mut *out, next, img, s, j);
-        j += 1;
     }
     next
 }

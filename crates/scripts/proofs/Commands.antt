@@ -1,65 +1,16 @@
 -- Laws of commands.
 use Prim.Native.Nat.{ℕ, zero, suc, ◌+◌, ◌-◌, ◌≤◌, ◌<◌}
 use native.Mathlib.Omega.{arith}
-use mathlib.Core.Path.{◌≡◌, refl, sym, ap, subst, ◌∙◌}
-use mathlib.Core.Logic.{⊎_elim}
-use mathlib.Core.Bool.{true, false}
+use mathlib.Core.Path.{◌≡◌, refl, sym, subst, ◌∙◌}
 use mathlib.Core.List.{List}
-use lib.ListN.{length, get_or}
-use borrow.Author.Tests.{eq-eqb, ne_eqb}
-use Rattle.loops.proofs.Tests.{lt_or_ge}
-use Rattle.lines.specs.Words.{code}
-use Rattle.scripts.specs.declared.run.Span.{Span}
-use Rattle.scripts.specs.declared.run.Run.TheVariants.{Gap, Word}
-use Rattle.scripts.specs.declared.number.Parsed.{Parsed}
+use Rattle.std.proofs.Common.{None}
 use Rattle.scripts.specs.declared.command.Call.{Call as A-call}
 use Rattle.scripts.specs.declared.command.Command.{Command}
-use Rattle.scripts.specs.declared.command.Command.TheVariants.{Nothing as NoCommand, Bytes, What}
+use Rattle.scripts.specs.declared.command.Command.TheVariants.{What}
 use Rattle.scripts.specs.declared.command.Next.{Next}
 use Rattle.scripts.specs.declared.command.Next.TheVariants.{Number, Nothing, Bad}
-use Rattle.scripts.specs.Runs.{end_of, word_at, text_of}
-use Rattle.scripts.specs.Numbers.{number_of, keyword_of}
-use Rattle.scripts.specs.Table.{bytes_text}
-use Rattle.scripts.specs.Commands.{most_numbers, begun, pushed, complete, none, found, next_number, numbers_from, worded, command_of}
-use Rattle.scripts.proofs.Ends.{end_past, end_after, end_within}
-
--- a word stands within its line
-pub record Within (line : List ℕ) (w : Span) : Type 0 where
-  pub order : w.from ≤ w.to
-  pub end : w.to ≤ length line
-
--- what is found of the first word from a place on
-module _ (line : List ℕ) (at : ℕ) (w : Span) (is : w ≡ word_at line at) where
-  pub word_within : at ≤ length line → Within line w
-  unfolding word_at
-  word_within h =
-      rw is
-      (record {
-        order = end_after Word line (end_of Gap line at);
-        end = end_within Word line (end_of Gap line at) (end_within Gap line at h);
-      })
-
-  word_past : length line ≤ at → w.from ≡ w.to
-  unfolding word_at
-  word_past h = rw (is, end_past Gap line at h, end_past Word line at h)
-
-  -- so does one from any place, where there is one
-  pub some_within : (w.from ≡ w.to → ⊥) → Within line w
-  some_within some = ⊎_elim (λ h. word_within (omega arith)) (λ h. absurd (some (word_past h))) (lt_or_ge at (length line))
-
-  pub no_word : w.from ≡ w.to → none (word_at line at) ≡ true
-  no_word e = ap none (sym is) ∙ eq-eqb _ _ e
-
-  pub some_word : (w.from ≡ w.to → ⊥) → none (word_at line at) ≡ false
-  some_word ne = ap none (sym is) ∙ ne_eqb _ _ ne
-
-  pub next_none : w.from ≡ w.to → Nothing ≡ next_number line at
-  unfolding next_number
-  next_none e = rw (no_word e)
-
-  pub next_found : (w.from ≡ w.to → ⊥) → (p : Parsed) → p ≡ number_of (text_of line w) → found p w.to ≡ next_number line at
-  unfolding next_number
-  next_found some p e = rw (some_word some, ← is, e)
+use Rattle.scripts.specs.Table.{takes}
+use Rattle.scripts.specs.Commands.{most_numbers, begun, pushed, fitting, complete, next_number, onwards, numbers_from}
 
 -- the loop over a command's numbers: the whole is the rest from here
 pub record Reading (line : List ℕ) (at word : ℕ) (k : A-call) (i : ℕ) : Type 0 where
@@ -115,33 +66,18 @@ module _ (line : List ℕ) (at word : ℕ) where
 pub pushed_less : (k : A-call) (v : ℕ) (j : A-call) → k.count ≤ most_numbers → (k.count ≡ most_numbers → ⊥) → j ≡ pushed k v → most_numbers - j.count < most_numbers - k.count
 pushed_less k v j few h p = subst (λ (y : A-call). most_numbers - y.count < most_numbers - k.count) (sym p) (omega arith)
 
--- a whole line, of whose first word this is found
-module _ (line : List ℕ) (w : Span) (is : w ≡ word_at line 0) where
-  pub first_within : Within line w
-  first_within = word_within line 0 w is (omega arith)
-
-  pub first_inside : (w.from ≡ w.to → ⊥) → w.from < length line
-  first_inside ne =
-      let h = first_within.order in
-      let k = first_within.end in
-      omega arith
-
-  pub command_none : w.from ≡ w.to → NoCommand ≡ command_of line
-  unfolding command_of
-  command_none e = rw (no_word line 0 w is e)
-
-  module _ (some : w.from ≡ w.to → ⊥) where
-    pub command_remark : get_or line w.from 0 ≡ 35 → NoCommand ≡ command_of line
-    unfolding command_of
-    command_remark e = rw (some_word line 0 w is some, ← is, eq-eqb _ _ e)
-
-    command_worded : (get_or line w.from 0 ≡ 35 → ⊥) → (k : ℕ) → k ≡ keyword_of (text_of line w) → worded line w.to k ≡ command_of line
-    unfolding command_of
-    command_worded ne k e = rw (some_word line 0 w is some, ← is, ne_eqb _ _ ne, e)
-
-    pub command_bytes : (get_or line w.from 0 ≡ 35 → ⊥) → (k : ℕ) → k ≡ keyword_of (text_of line w) → k ≡ (code 0 bytes_text) → Bytes w.to ≡ command_of line
-    command_bytes ne k e h = rw (eq-eqb k (code 0 bytes_text) h) at (command_worded ne k e)
-
-    pub command_numbers : (get_or line w.from 0 ≡ 35 → ⊥) → (k : ℕ) → k ≡ keyword_of (text_of line w) → (k ≡ (code 0 bytes_text) → ⊥)
-        → (c : Command) → c ≡ numbers_from most_numbers line w.to (begun k) → c ≡ command_of line
-    command_numbers ne k e h c f = f ∙ (rw (ne_eqb k (code 0 bytes_text) h) at (command_worded ne k e))
+-- what is no keyword is no command, whatever numbers follow it
+pub unknown_none : (n : ℕ) (line : List ℕ) (at : ℕ) (k : A-call) → takes k.word ≡ None → numbers_from n line at k ≡ What
+unfolding numbers_from complete
+unknown_none zero line at k e = go (next_number line at)
+  where
+    go : (x : Next) → onwards x (fitting k (takes k.word)) (λ v to. What) ≡ What
+    go Nothing = rw e
+    go Bad = refl
+    go (Number v to) = refl
+unknown_none (suc n) line at k e = go (next_number line at) (λ v to. unknown_none n line to (pushed k v) e)
+  where
+    go : (x : Next) → ((v to : ℕ) → numbers_from n line to (pushed k v) ≡ What) → onwards x (fitting k (takes k.word)) (λ v to. numbers_from n line to (pushed k v)) ≡ What
+    go Nothing more = rw e
+    go Bad more = refl
+    go (Number v to) more = more v to

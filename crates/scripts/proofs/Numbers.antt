@@ -23,8 +23,7 @@ use Rattle.lines.specs.Print.{letters, text, field, print_shape, print, Bytes, S
 use Rattle.lines.proofs.Digits.{digits_small, digits_step, decimal_length}
 use Rattle.lines.proofs.RoundTrip.{round_trip}
 use Rattle.lines.proofs.Back.{print_back}
-use Rattle.scripts.specs.declared.number.Parsed.{Parsed}
-use Rattle.scripts.specs.declared.number.Parsed.TheVariants.{Is, Not}
+use Rattle.std.proofs.Common.{Option, None, Some}
 use Rattle.scripts.specs.Numbers.{value, same, number_of, after_end}
 
 same_self : (xs : List ℕ) → same xs xs ≡ true
@@ -68,7 +67,7 @@ unfolding decimal
 value_decimal n h = value_digits 9 n (dec_lt n 10) (omega arith)
 
 -- A WORD IS THE NUMBER v EXACTLY WHERE IT IS THE DECIMAL TEXT OF v, WHICH IS AT MOST 4,294,967,295
-pub number_is : (v : ℕ) → v < 2 ^ 32 → number_of (decimal v) ≡ Is v
+pub number_is : (v : ℕ) → v < 2 ^ 32 → number_of (decimal v) ≡ Some v
 unfolding number_of
 number_is v h = rw (value_decimal v h, lt-ltb v (2 ^ 32) h, same_self (decimal v))
 
@@ -81,18 +80,18 @@ test_text word e =
     let b = both_true (ltb (value 0 word) (2 ^ 32)) (same word (decimal (value 0 word))) e in
     record { written = same_true _ _ b.1; small = ltb-true _ _ b.0 }
 
-pub number_back : (word : List ℕ) (v : ℕ) → number_of word ≡ Is v → (word ≡ decimal v) × (v < 2 ^ 32)
+pub number_back : (word : List ℕ) (v : ℕ) → number_of word ≡ Some v → (word ≡ decimal v) × (v < 2 ^ 32)
 unfolding number_of
 number_back word v e = step (both (ltb (value 0 word) (2 ^ 32)) (same word (decimal (value 0 word)))) refl e
   where
-    step : (t : Bool) → both (ltb (value 0 word) (2 ^ 32)) (same word (decimal (value 0 word))) ≡ t → cond t (Is (value 0 word)) Not ≡ Is v → (word ≡ decimal v) × (v < 2 ^ 32)
+    step : (t : Bool) → both (ltb (value 0 word) (2 ^ 32)) (same word (decimal (value 0 word))) ≡ t → cond t (Some (value 0 word)) None ≡ Some v → (word ≡ decimal v) × (v < 2 ^ 32)
     step true q s =
         let k : value 0 word ≡ v = cc in
         let d = test_text word q in
         (d.written ∙ ap decimal k, omega (arith, d.small))
     step false q s = absurd (let z : ◌≡◌ {A = ℕ} 0 1 = cc in omega arith)
 
-number_not : (word : List ℕ) → ((v : ℕ) → v < 2 ^ 32 → word ≡ decimal v → ⊥) → number_of word ≡ Not
+number_not : (word : List ℕ) → ((v : ℕ) → v < 2 ^ 32 → word ≡ decimal v → ⊥) → number_of word ≡ None
 unfolding number_of
 number_not word h = rw (is_false (both (ltb (value 0 word) (2 ^ 32)) (same word (decimal (value 0 word)))) (λ e. h (value 0 word) (test_text word e).small (test_text word e).written))
 
@@ -114,18 +113,18 @@ end_read v h =
     ∙ round_trip (End v) (h, tt) (rw (end_printed v) (omega (arith, decimal_length v)))
 
 -- what a line of the log says of a number
-abbrev pub parsed : Line → Parsed
-parsed (Heading e p s) = Not
-parsed (Operation o) = Not
-parsed (End v) = Is v
-parsed (Single a) = Not
-parsed Bad = Not
+abbrev pub parsed : Line → Option ℕ
+parsed (Heading e p s) = None
+parsed (Operation o) = None
+parsed (End v) = Some v
+parsed (Single a) = None
+parsed Bad = None
 
 end_bytes : (word : List ℕ) → Bytes word → Bytes (ending word)
 end_bytes word h = (omega arith, (omega arith, (omega arith, (omega arith, h))))
 
 module _ (word : List ℕ) (h : Bytes word) where
-  other : (l : Line) → line_of enough (ending word) ≡ l → ((v : ℕ) → l ≡ End v → ⊥) → number_of word ≡ Not
+  other : (l : Line) → line_of enough (ending word) ≡ l → ((v : ℕ) → l ≡ End v → ⊥) → number_of word ≡ None
   other l e ne = number_not word (λ v small is. ne v (sym e ∙ ap (λ (xs : List ℕ). line_of enough (ending xs)) is ∙ end_read v small))
 
   by_line : (l : Line) → line_of enough (ending word) ≡ l → number_of word ≡ parsed l
@@ -139,6 +138,17 @@ module _ (word : List ℕ) (h : Bytes word) where
   by_line (Single a) q = other _ q (λ v b. absurd (let z : ◌≡◌ {A = ℕ} 0 1 = cc in omega arith))
   by_line Bad q = other _ q (λ v b. absurd (let z : ◌≡◌ {A = ℕ} 0 1 = cc in omega arith))
 
+-- what does not end a transaction says none
+parsed_none : (l : Line) → ((v : ℕ) → l ≡ End v → ⊥) → None ≡ parsed l
+parsed_none (Heading e p s) h = refl
+parsed_none (Operation o) h = refl
+parsed_none (End v) h = absurd (h v refl)
+parsed_none (Single a) h = refl
+parsed_none Bad h = refl
+
 -- what the machine finds of a word is the number that the word is
 pub number_found : (word : List ℕ) → ((i : ℕ) → get_or word i 0 < 256) → (s : Scan) (l m : Line) → s ≡ after_end word → l ≡ finish s → l ≡ m → parsed m ≡ number_of word
 number_found word h s l m e f g = sym (by_line word (bytes_of word h) m (sym (after_end_lem word) ∙ ap finish (sym e) ∙ sym f ∙ g))
+
+pub number_none : (word : List ℕ) → ((i : ℕ) → get_or word i 0 < 256) → (s : Scan) (l : Line) → s ≡ after_end word → l ≡ finish s → ((v : ℕ) → l ≡ End v → ⊥) → None ≡ number_of word
+number_none word h s l e f g = parsed_none l g ∙ number_found word h s l l e f refl

@@ -1,12 +1,10 @@
 -- The command that a line of the script is.
-use Rattle.std.specs.Prelude.{ℕ, zero, suc, ◌+◌, Bool, cond, List, eqb, get_or}
+use Rattle.std.specs.Prelude.{ℕ, zero, suc, ◌+◌, cond, Option, None, Some, List, eqb, get_or}
 use Rattle.lines.specs.declared.line.Line.{Line}
 use Rattle.lines.specs.declared.machine.Scan.TheVariants.{Word as InWord, Number as InNumber}
 use Rattle.lines.specs.Words.{code}
 use Rattle.lines.specs.Line.{finish}
 use Rattle.scripts.specs.declared.run.Span.{Span}
-use Rattle.scripts.specs.declared.number.Parsed.{Parsed}
-use Rattle.scripts.specs.declared.number.Parsed.TheVariants.{Is, Not}
 use Rattle.scripts.specs.declared.command.Call.{Call as A-call}
 use Rattle.scripts.specs.declared.command.Command.{Command}
 use Rattle.scripts.specs.declared.command.Command.TheVariants.{Nothing as NoCommand, Bytes, Call, What}
@@ -28,22 +26,27 @@ begun w = record { word = w; count = 0; a = 0; b = 0; c = 0; d = 0; e = 0 }
 abbrev pub pushed : A-call → ℕ → A-call
 pushed k v = record { word = k.word; count = k.count + 1; a = k.b; b = k.c; c = k.d; d = k.e; e = v }
 
--- a command, where the keyword takes as many numbers as there are
-unfoldable pub complete : A-call → Command
-complete k = cond (eqb k.count (takes k.word)) (Call k) What
+-- a command, where its keyword takes as many numbers as there are
+abbrev pub fitting : A-call → Option ℕ → Command
+fitting k None = What
+fitting k (Some n) = cond (eqb n k.count) (Call k) What
 
--- there is no word
-abbrev pub none : Span → Bool
-none w = eqb w.from w.to
+unfoldable pub complete : A-call → Command
+complete k = fitting k (takes k.word)
 
 -- a word that is a number, with the place after it
-abbrev pub found : Parsed → ℕ → Next
-found (Is v) to = Number v to
-found Not to = Bad
+abbrev pub found : Option ℕ → ℕ → Next
+found (Some v) to = Number v to
+found None to = Bad
+
+-- a word as a number
+abbrev pub numbered : List ℕ → Option Span → Next
+numbered line None = Nothing
+numbered line (Some w) = found (number_of (text_of line w)) w.to
 
 -- the next word as a number
 unfoldable pub next_number : List ℕ → ℕ → Next
-next_number line at = cond (none (word_at line at)) Nothing (found (number_of (text_of line (word_at line at))) (word_at line at).to)
+next_number line at = numbered line (word_at line at)
 
 -- a line ends, or goes on with a number; with any other word it is no command
 abbrev pub onwards : Next → Command → (ℕ → ℕ → Command) → Command
@@ -57,15 +60,17 @@ numbers_from zero line at k = onwards (next_number line at) (complete k) (λ v t
 numbers_from (suc n) line at k = onwards (next_number line at) (complete k) (λ v to. numbers_from n line to (pushed k v))
 
 -- of a line whose first word is no remark
-abbrev pub worded : List ℕ → ℕ → ℕ → Command
-worded line to w = cond (eqb w (code 0 bytes_text)) (Bytes to) (numbers_from most_numbers line to (begun w))
+abbrev pub worded : List ℕ → ℕ → Option ℕ → Command
+worded line to None = What
+worded line to (Some w) = cond (eqb w (code 0 bytes_text)) (Bytes to) (numbers_from most_numbers line to (begun w))
 
 -- a line without a word, or whose first word begins with #, is nothing
+abbrev pub led : List ℕ → Option Span → Command
+led line None = NoCommand
+led line (Some w) = cond (eqb (get_or line w.from 0) 35) NoCommand (worded line w.to (keyword_of (text_of line w)))
+
 unfoldable pub command_of : List ℕ → Command
-command_of line =
-    cond (none (word_at line 0)) NoCommand
-    (cond (eqb (get_or line (word_at line 0).from 0) 35) NoCommand
-    (worded line (word_at line 0).to (keyword_of (text_of line (word_at line 0)))))
+command_of line = led line (word_at line 0)
 
 -- the log's line of the same words
 unfoldable pub line_of : A-call → Line

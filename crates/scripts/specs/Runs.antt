@@ -1,5 +1,5 @@
 -- Runs of bytes, and the words of a line.
-use Rattle.std.specs.Prelude.{ℕ, suc, ◌+◌, ◌-◌, Bool, true, cond, not, List, [], ◌∷◌, eqb, length, take, drop, get_or}
+use Rattle.std.specs.Prelude.{ℕ, suc, ◌+◌, ◌-◌, Bool, true, cond, not, Option, None, Some, List, [], ◌∷◌, eqb, length, take, drop, get_or}
 use Rattle.scripts.specs.declared.run.Run.{Run}
 use Rattle.scripts.specs.declared.run.Run.TheVariants.{Gap, Word, Line}
 use Rattle.scripts.specs.declared.run.Span.{Span}
@@ -23,9 +23,13 @@ span r (b ∷ bs) = cond (goes_on r b) (suc (span r bs)) 0
 unfoldable pub end_of : Run → List ℕ → ℕ → ℕ
 end_of r bytes at = at + span r (drop at bytes)
 
--- the first word from a place on: it starts after spaces and tabs
-unfoldable pub word_at : List ℕ → ℕ → Span
-word_at line at = record { from = end_of Gap line at; to = end_of Word line (end_of Gap line at) }
+-- a word from a place to another, if it has a byte
+abbrev pub spanned : ℕ → ℕ → Option Span
+spanned from to = cond (eqb from to) None (Some (record { from = from; to = to }))
+
+-- the first word from a place on, if there is one: it starts after spaces and tabs
+unfoldable pub word_at : List ℕ → ℕ → Option Span
+word_at line at = spanned (end_of Gap line at) (end_of Word line (end_of Gap line at))
 
 -- the bytes of a word
 abbrev pub text_of : List ℕ → Span → List ℕ

@@ -1,5 +1,5 @@
 -- The keywords of the script's commands, how many numbers follow each, and what it asks for.
-use Rattle.std.specs.Prelude.{ℕ, ◌+◌, List, [], ◌∷◌}
+use Rattle.std.specs.Prelude.{ℕ, ◌+◌, Option, None, Some, List, [], ◌∷◌}
 use Rattle.kinds.specs.Names.{named, partition}
 use Rattle.lines.specs.declared.line.Line.{Line}
 use Rattle.lines.specs.declared.line.Line.TheVariants.{Heading, Operation, End, Single, Bad}
@@ -71,18 +71,14 @@ rows =
 abbrev pub bytes_text : List ℕ
 bytes_text = 98 ∷ 121 ∷ 116 ∷ 101 ∷ 115 ∷ []
 
--- more numbers than any command has: what is no keyword takes so many
-abbrev pub too_many : ℕ
-too_many = 6
-
 -- of a line of the log that n numbers follow: a command names an operation by the same words, an act that is a single line with its place behind them, and no other line
-abbrev pub named_by : Line → ℕ → ℕ
-named_by (Heading e p s) n = too_many
-named_by (Operation o) n = n
-named_by (End k) n = too_many
-named_by (Single a) n = n + 1
-named_by Bad n = too_many
+abbrev pub named_by : Line → ℕ → Option ℕ
+named_by (Heading e p s) n = None
+named_by (Operation o) n = Some n
+named_by (End k) n = None
+named_by (Single a) n = Some (n + 1)
+named_by Bad n = None
 
--- how many numbers follow a keyword
-unfoldable pub takes : ℕ → ℕ
-takes w = of_row (λ r. r.numbers) (named_by (line_by all_rows w 0 0 0 0 0) (following all_rows w)) rows w
+-- how many numbers follow a keyword; none of what is no keyword
+unfoldable pub takes : ℕ → Option ℕ
+takes w = of_row (λ r. Some r.numbers) (named_by (line_by all_rows w 0 0 0 0 0) (following all_rows w)) rows w

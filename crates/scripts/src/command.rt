@@ -2,13 +2,13 @@
 ghost use Rattle.std.specs.Prelude.{◌≡◌, ◌≤◌};
 ghost use Rattle.scripts.specs.Commands.{pushed, complete, most_numbers, begun, next_number, numbers_from, command_of, line_of, shorter_of};
 
-use crate::number::{Parsed, keyword, number};
-use crate::run::word_at;
+use crate::number::{keyword, number};
+use crate::run::{Span, word_at};
 use crate::table::{BYTES, takes};
 use lines::line::{Line, finish};
 use lines::machine::{Read, Scan};
 
-// A keyword, how many numbers follow it, and the last five of them: e is the last.
+// A keyword, how many numbers follow it, and the last five of them: e is the last. (Fields and no array, as `lines::machine::Read`.)
 #[derive(Clone, Copy)]
 pub struct Call {
     pub word: u64,
@@ -32,7 +32,7 @@ pub enum Command {
     What,
 }
 
-// What a next word is.
+// What a next word is. (No Result of an Option: each of the three has an arm where it is asked for, and nobody hands `Bad` on.)
 #[derive(Clone, Copy)]
 pub enum Next {
     // A number, and the place after it.
@@ -50,7 +50,7 @@ impl Call {
         ensures { result ≡ begun word }
     {
         Call {
-            word: word,
+            word,
             count: 0,
             a: 0,
             b: 0,
@@ -77,16 +77,18 @@ impl Call {
     }
 
     // A command, where the keyword takes as many numbers as there are.
+    #[tactic(auto, unfolding(crate::specs::Commands::complete))]
     fn complete(self) -> Command
         ensures { result ≡ complete self }
     {
-        if self.count == takes(self.word) {
-            return Command::Call(self);
+        match takes(self.word) {
+            Some(n) if n == self.count => Command::Call(self),
+            _ => Command::What,
         }
-        Command::What
     }
 
     // The log's line of the same words.
+    #[tactic(auto, unfolding(crate::specs::Commands::line_of))]
     pub(crate) fn line(self) -> Line
         ensures { result ≡ line_of self }
     {
@@ -102,6 +104,7 @@ impl Call {
     }
 
     // The log's line of the same words less the last number.
+    #[tactic(auto, unfolding(crate::specs::Commands::shorter_of))]
     pub(crate) fn shorter(self) -> Line
         ensures { result ≡ shorter_of self }
     {
@@ -121,22 +124,20 @@ impl Call {
 }
 
 // The next word of a line as a number.
+#[tactic(auto, unfolding(crate::specs::Commands::next_number))]
 pub fn next_number(line: &[u8], at: usize) -> Next
     ensures { result ≡ next_number line.now at }
 {
-    let w = word_at(line, at);
-    let from = w.from;
-    let to = w.to;
-    if from == to {
+    let Some(Span { from, to }) = word_at(line, at) else {
         return Next::Nothing;
-    }
+    };
     match number(&line[from..to]) {
-        Parsed::Is(v) => Next::Number(v, to),
-        Parsed::Not => Next::Bad,
+        Some(v) => Next::Number(v, to),
+        None => Next::Bad,
     }
 }
 
-// The command whose numbers stand from a place of the line on.
+// The command whose numbers stand from a place of the line on. (No `for`: where a word stands is known once the one before it is read.)
 fn numbers(line: &[u8], at: usize, word: u64) -> Command
     ensures { result ≡ numbers_from most_numbers line.now at (begun word) }
 {
@@ -158,21 +159,19 @@ fn numbers(line: &[u8], at: usize, word: u64) -> Command
 }
 
 // The command that a line is; its bytes are given without the line end.
+#[tactic(auto, unfolding(crate::specs::Commands::command_of))]
 pub fn parse(line: &[u8]) -> Command
     ensures { result ≡ command_of line.now }
 {
-    let w = word_at(line, 0);
-    let from = w.from;
-    let to = w.to;
-    if from == to {
+    let Some(Span { from, to }) = word_at(line, 0) else {
+        return Command::Nothing;
+    };
+    if line[from] == b'#' {
         return Command::Nothing;
     }
-    if line[from] == 35 {
-        return Command::Nothing;
+    match keyword(&line[from..to]) {
+        None => Command::What,
+        Some(BYTES) => Command::Bytes(to),
+        Some(k) => numbers(line, to, k),
     }
-    let k = keyword(&line[from..to]);
-    if k == BYTES {
-        return Command::Bytes(to);
-    }
-    numbers(line, to, k)
 }

@@ -48,6 +48,7 @@ pub enum Order {
 }
 
 // What a keyword that is none of the log's asks for. The numbers of a call end in e.
+#[tactic(auto, unfolding(crate::specs::Orders::keyed, crate::specs::Table::rows))]
 fn keyed(k: Call) -> Order
     ensures { result ≡ keyed k }
 {
@@ -77,27 +78,23 @@ fn acted(k: Call) -> Order
 {
     match k.shorter() {
         Line::Single(a) => Order::Deed(Deed::Single(a, k.e as usize)),
-        Line::Heading(_, _, _) => keyed(k),
-        Line::Operation(_) => keyed(k),
-        Line::End(_) => keyed(k),
-        Line::Bad => keyed(k),
+        _ => keyed(k),
     }
 }
 
 // What a keyword asks for, with its numbers.
+#[tactic(auto, unfolding(crate::specs::Orders::called))]
 fn called(k: Call) -> Order
     ensures { result ≡ called k }
 {
     match k.line() {
         Line::Operation(o) => Order::Wait(o),
-        Line::Heading(_, _, _) => acted(k),
-        Line::End(_) => acted(k),
-        Line::Single(_) => acted(k),
-        Line::Bad => acted(k),
+        _ => acted(k),
     }
 }
 
 // What a line asks for.
+#[tactic(auto, unfolding(crate::specs::Orders::order_of))]
 pub fn order_of(c: Command) -> Order
     ensures { result ≡ order_of c }
 {

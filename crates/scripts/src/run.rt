@@ -1,8 +1,8 @@
 // Runs of bytes: the spaces and tabs between words, words, lines.
-ghost use Rattle.std.specs.Prelude.{◌≡◌};
-ghost use Rattle.scripts.specs.Runs.{goes_on, end_of, word_at, bare_of};
+ghost use Rattle.std.specs.Prelude.{◌≡◌, ◌≤◌, ◌<◌, length, IfSome};
+ghost use Rattle.scripts.specs.Runs.{goes_on, span, end_of, word_at, bare_of};
 
-// What a run is made of.
+// What a run is made of. (An enum and no closure: by it the contracts say which bytes.)
 #[derive(Clone, Copy)]
 pub enum Run {
     // Spaces and tabs.
@@ -13,7 +13,7 @@ pub enum Run {
     Line,
 }
 
-// Where a word stands: from its first byte to the byte after it. Both are the same where there is none.
+// Where a word stands: from its first byte to the byte after it.
 #[derive(Clone, Copy)]
 pub struct Span {
     pub from: usize,
@@ -23,13 +23,7 @@ pub struct Span {
 fn is_gap(b: u8) -> bool
     ensures { result ≡ goes_on Run.Gap b }
 {
-    if b == 32 {
-        return true;
-    }
-    if b == 9 {
-        return true;
-    }
-    false
+    matches!(b, b' ' | b'\t')
 }
 
 fn goes_on(run: Run, b: u8) -> bool
@@ -38,43 +32,51 @@ fn goes_on(run: Run, b: u8) -> bool
     match run {
         Run::Gap => is_gap(b),
         Run::Word => !is_gap(b),
-        Run::Line => b != 10,
+        Run::Line => b != b'\n',
     }
+}
+
+// How long the run is with which the bytes start.
+fn run_len(bytes: &[u8], run: Run) -> usize
+    ensures { result ≡ span run bytes.now }
+{
+    bytes
+        .iter()
+        .position(|b| !goes_on(run, *b))
+        .unwrap_or(bytes.len())
 }
 
 // The place after the run that starts at a place.
 pub fn end_of(bytes: &[u8], at: usize, run: Run) -> usize
     ensures { result ≡ end_of run bytes.now at }
 {
-    let mut i = at;
-    while i < bytes.len() {
-        if !goes_on(run, bytes[i]) {
-            return i;
-        }
-        i += 1;
+    if at >= bytes.len() {
+        return at;
     }
-    i
+    at + run_len(&bytes[at..], run)
 }
 
-// The first word from a place on.
-pub(crate) fn word_at(line: &[u8], at: usize) -> Span
-    ensures { result ≡ word_at line.now at }
+// The first word from a place on, if there is one.
+#[tactic(auto, unfolding(crate::specs::Runs::word_at))]
+pub(crate) fn word_at(line: &[u8], at: usize) -> Option<Span>
+    ensures value { result ≡ word_at line.now at }
+    ensures within { IfSome result (λ w. (w.from < w.to) × (w.to ≤ length line.now)) }
 {
     let from = end_of(line, at, Run::Gap);
     let to = end_of(line, from, Run::Word);
-    Span { from: from, to: to }
+    if from == to {
+        return None;
+    }
+    Some(Span { from, to })
 }
 
 // The length of a line without the byte 13 that may stand at its end: editors of some systems end lines by 13 and 10.
+#[tactic(auto, unfolding(crate::specs::Runs::bare_of))]
 pub fn bare(line: &[u8]) -> usize
     ensures { result ≡ bare_of line.now }
 {
-    let n = line.len();
-    if n == 0 {
-        return 0;
+    match line {
+        [.., b'\r'] => line.len() - 1,
+        _ => line.len(),
     }
-    if line[n - 1] == 13 {
-        return n - 1;
-    }
-    n
 }

@@ -33,20 +33,17 @@ pub(crate) const LOG: u64 = 7106407;
 
 pub(crate) const HELP: u64 = 1751477360;
 
-// More numbers than any command has: what is no keyword takes so many.
-pub(crate) const NONE: usize = 6;
-
-// How many numbers follow a keyword. `bytes` has none here, since any number may follow it.
-pub(crate) fn takes(w: u64) -> usize
+// How many numbers follow a keyword that a command has; None of any other. So of `bytes`, since any number may follow it.
+pub(crate) fn takes(w: u64) -> Option<usize>
     ensures { result ≡ takes w }
 {
     match w {
-        DIGEST | SHOW | HELP => 0,
-        IMAGE | BUFFER | UNROOT | COMMIT | OPEN | CLOSE | OUTLIST | RECOVER | LOG => 1,
-        WORD | TRACE | LOCAL | READ | ASK | DROP => 2,
-        FORMAT | NEW | CLR | VAL | ROOT => 3,
-        HOLD => 4,
-        SET => 5,
-        _ => NONE,
+        DIGEST | SHOW | HELP => Some(0),
+        IMAGE | BUFFER | UNROOT | COMMIT | OPEN | CLOSE | OUTLIST | RECOVER | LOG => Some(1),
+        WORD | TRACE | LOCAL | READ | ASK | DROP => Some(2),
+        FORMAT | NEW | CLR | VAL | ROOT => Some(3),
+        HOLD => Some(4),
+        SET => Some(5),
+        _ => None,
     }
 }

@@ -15,8 +15,7 @@ use Rattle.desk.specs.Desk.{Lent, turn_of}
 use Rattle.desk.proofs.Staying.{step_stays}
 use Rattle.reporting.specs.Report.{most_words}
 use Rattle.shell.specs.declared.feed.Feed.{Feed}
-use Rattle.shell.specs.declared.start.Start.{Start}
-use Rattle.shell.specs.Feed.{Fed, Begun, room}
+use Rattle.shell.specs.Feed.{Begun, room}
 
 pub record Held (d : Desk) (img log script : List ℕ) (f : Feed) (line : ℕ) : Type 0 where
   pub words : most_words ≡ length img
@@ -25,10 +24,9 @@ pub record Held (d : Desk) (img log script : List ℕ) (f : Feed) (line : ℕ) :
   pub lent : Lent d img log
   pub few : d.waits ≤ f.at
   pub counted : line ≤ f.at
-  pub fed : Fed f
 
-pub held_first : (s : Start) (img log script : List ℕ) (f : Feed) → most_words ≡ length img → 65536 ≡ length log → room ≡ length script → Begun s → Fed f → Held s.desk img log script f 0
-held_first s img log script f m n k b g =
+pub held_first : (d : Desk) (img log script : List ℕ) (f : Feed) → most_words ≡ length img → 65536 ≡ length log → room ≡ length script → Begun d → Held d img log script f 0
+held_first d img log script f m n k b =
     record {
       words = m;
       bytes = n;
@@ -36,7 +34,6 @@ held_first s img log script f m n k b g =
       lent = record { words = omega (arith, b.words); bytes = omega (arith, b.bytes) };
       few = omega (arith, b.waits);
       counted = omega arith;
-      fed = g;
     }
 
 -- after a line
@@ -47,15 +44,14 @@ module _ (d : Desk) (img log script : List ℕ) (f : Feed) (n : ℕ) (h : Held d
       let s = step_stays line d ops img log h.lent o t img' log' q in
       record { words = omega (arith, s.words, h.words); bytes = omega (arith, s.bytes, h.bytes) }
 
-  pub held_next : (script' : List ℕ) (g : Feed) → room ≡ length script' → f.at < f.next → (g.at ≡ f.next) × Fed g → Held t.desk img' log' script' g (n + 1)
-  held_next script' g k l e =
+  pub held_next : (script' : List ℕ) (g : Feed) → room ≡ length script' → f.at < g.at → Held t.desk img' log' script' g (n + 1)
+  held_next script' g k l =
       let s = step_stays line d ops img log h.lent o t img' log' q in
       record {
         words = m;
         bytes = b;
         space = k;
         lent = lent_next;
-        few = omega (arith, s.waits, h.few, e.0);
-        counted = omega (arith, h.counted, e.0);
-        fed = e.1;
+        few = omega (arith, s.waits, h.few);
+        counted = omega (arith, h.counted);
       }

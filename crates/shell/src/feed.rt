@@ -1,10 +1,10 @@
 // The script as it comes: all of it before the first line or, at a terminal, line by line.
-ghost use Rattle.std.specs.Prelude.{◌≡◌, ◌+◌, ◌≤◌, length};
+ghost use Rattle.std.specs.Prelude.{◌≡◌, ◌+◌, ◌<◌, ◌≤◌, IsSome, length};
 ghost use Rattle.input.specs.Input.{Stands};
-ghost use Rattle.shell.specs.Feed.{Fed, room, most};
+ghost use Rattle.shell.specs.Feed.{room, most};
 
-use crate::out::{LOST, send};
-use input::{Got, Input, Source, fail};
+use crate::status::Status;
+use input::fail;
 use scripts::run::{Run, bare, end_of};
 use std::io;
 use std::io::{IsTerminal, Read};
@@ -12,47 +12,40 @@ use std::io::{IsTerminal, Read};
 // The most bytes that a script has.
 const SCRIPT: usize = 1048576;
 
-// The line to play next.
+// Where a line stands in the script, without what ends it.
 #[derive(Clone, Copy)]
+pub(crate) struct Line {
+    pub start: usize,
+    pub end: usize,
+
+    ghost forth: { start ≤ end },
+    ghost within: { end ≤ room },
+}
+
+// How far the script is read and played. The lines are handed out as places, since the script grows in its buffer while they are.
+#[derive(Drop)]
 pub(crate) struct Feed {
-    // Its bytes are at..to, without what ends it.
+    // Where the next line starts.
     pub at: usize,
-    pub to: usize,
-    // Where the line after it starts; there is no line to play where that is `at`.
-    pub next: usize,
     // How many bytes of the script are read.
     pub have: usize,
     // More may come: a terminal, whose input has not ended.
     pub more: bool,
-    // The status, as far as reading goes.
-    pub status: u8,
+    // How reading went so far.
+    pub status: Status,
+
+    // A last line that lacks its end is followed by one that would start behind it.
+    ghost after: { at ≤ have + 1 },
+    ghost read: { have ≤ most },
 }
 
-// There is no line to play any more.
-fn over(at: usize, have: usize, status: u8) -> Feed
-    requires { (at ≤ have + 1) × (have ≤ most) }
-    ensures { (result.at ≡ at) × Fed result }
-{
-    Feed {
-        at: at,
-        to: at,
-        next: at,
-        have: have,
-        more: false,
-        status: status,
-    }
-}
-
-fn unread<R: Eprint>(rt: &R, error: io::Error) -> u8 {
+fn unread<R: Eprint>(rt: &R, error: io::Error) -> Status {
     fail(rt, "shell: the script cannot be read", error);
-    2
+    Status::Failed
 }
 
-fn too_long<R: Print + Eprint>(rt: &R) -> u8 {
-    if send(rt, b"toolong\n") == LOST {
-        return 2;
-    }
-    1
+fn too_long<R: Print + Eprint>(rt: &R) -> Status {
+    Status::of(rt, rt.write_all(b"toolong\n")).max(Status::Odd)
 }
 
 // Where the line that starts at a place ends.
@@ -63,116 +56,115 @@ fn line_end(script: &[u8], at: usize) -> usize
     end_of(script, at, Run::Line)
 }
 
-// The line from a place to its end; a byte 13 there is blank.
-fn line(script: &[u8], at: usize, end: usize, have: usize, more: bool) -> Feed
-    requires { (at ≤ end) × (end ≤ have) × (have ≤ most) × (have ≤ length script.now) }
-    ensures { (result.at ≡ at) × Fed result }
-{
-    let n = bare(&script[at..end]);
-    Feed {
-        at: at,
-        to: at + n,
-        next: end + 1,
-        have: have,
-        more: more,
-        status: 0,
-    }
-}
-
-// The last line, which may lack its end.
-fn last(script: &[u8], at: usize, have: usize) -> Feed
-    requires { (at ≤ have) × (have ≤ most) × (have ≤ length script.now) }
-    ensures { (result.at ≡ at) × Fed result }
-{
-    if at < have {
-        return line(script, at, have, have, false);
-    }
-    over(at, have, 0)
-}
-
 // One read more, after the prompt.
-fn ask<R: Eprint, S: Read>(rt: &R, source: &mut Source<S>, script: &mut [u8], have: usize) -> Got
+fn ask<R: Eprint, S: Read>(
+    rt: &R,
+    source: &mut S,
+    script: &mut [u8],
+    have: usize,
+) -> io::Result<Option<usize>>
     ensures { Stands have (length script.new) result }
 {
     let _ = eprint!(rt; "> ");
     input::read_more(source, script, have)
 }
 
-// The line that starts at a place. Where it is not complete and more may come, more is read.
-fn line_from<R: Print + Eprint, S: Read>(
-    rt: &R,
-    source: &mut Source<S>,
-    script: &mut [u8],
-    at: usize,
-    have: usize,
-    more: bool,
-) -> Feed
-    requires { (at ≤ have) × (have ≤ most) × (room ≡ length script.old) }
-    ensures { (result.at ≡ at) × Fed result }
-{
-    let mut n = have;
-    loop {
-        let end = line_end(&script[..n], at);
-        if end < n {
-            return line(&*script, at, end, n, more);
+impl Feed {
+    // Nothing is played yet. Where the source is no terminal, all of it is read.
+    pub(crate) fn new<R: Print + Eprint, S: Read + IsTerminal>(
+        rt: &R,
+        source: &mut S,
+        script: &mut [u8],
+    ) -> Feed
+        requires { room ≡ length script.old }
+        ensures { result.at ≡ 0 }
+    {
+        if source.is_terminal() {
+            return Feed {
+                at: 0,
+                have: 0,
+                more: true,
+                status: Status::Fine,
+            };
         }
-        if !more {
-            return last(&*script, at, n);
+        let (have, status) = match input::read_all(source, script) {
+            Ok(n) if n <= SCRIPT => (n, Status::Fine),
+            Ok(_) => (0, too_long(rt)),
+            Err(e) => (0, unread(rt, e)),
+        };
+        Feed {
+            at: 0,
+            have,
+            more: false,
+            status,
         }
-        match ask(rt, source, &mut *script, n) {
-            Got::More(k) => {
-                if SCRIPT < k {
-                    return over(at, n, too_long(rt));
+    }
+
+    // The line from here to its end, where a byte 13 is blank.
+    fn line(&mut self, script: &[u8], end: usize) -> Line
+        requires { (self.old.at ≤ end) × (end ≤ self.old.have) × (self.old.have ≤ length script.now) }
+        ensures { self.old.at < self.new.at }
+    {
+        let start = self.at;
+        self.at = end + 1;
+        let n = bare(&script[start..end]);
+        Line {
+            start,
+            end: start + n,
+        }
+    }
+
+    // The last line, which may lack its end.
+    fn last(&mut self, script: &[u8]) -> Option<Line>
+        requires { self.old.have ≤ length script.now }
+        ensures { IsSome result → self.old.at < self.new.at }
+    {
+        let end = self.have;
+        if self.at < end {
+            Some(self.line(script, end))
+        } else {
+            None
+        }
+    }
+
+    // The next line. Where it is not complete and more may come, more is read. (No `for`: how much there is to search is known once it is read.)
+    pub(crate) fn next<R: Print + Eprint, S: Read>(
+        &mut self,
+        rt: &R,
+        source: &mut S,
+        script: &mut [u8],
+    ) -> Option<Line>
+        requires { room ≡ length script.old }
+        ensures { IsSome result → self.old.at < self.new.at }
+    {
+        if self.have < self.at {
+            return None;
+        }
+        loop {
+            let have = self.have;
+            let end = line_end(&script[..have], self.at);
+            if end < have {
+                return Some(self.line(&*script, end));
+            }
+            if !self.more {
+                return self.last(&*script);
+            }
+            match ask(rt, source, &mut *script, have) {
+                Ok(Some(n)) if n <= SCRIPT => self.have = n,
+                Ok(Some(_)) => {
+                    self.status = too_long(rt);
+                    return None;
                 }
-                n = k;
+                Ok(None) => {
+                    let _ = eprintln!(rt);
+                    self.more = false;
+                    return self.last(&*script);
+                }
+                Err(e) => {
+                    self.status = unread(rt, e);
+                    return None;
+                }
             }
-            Got::Ended(_) => {
-                let _ = eprintln!(rt);
-                return last(&*script, at, n);
-            }
-            Got::Failed => return over(at, n, unread(rt, source.error())),
         }
     }
-}
-
-// The first line. Where the source is no terminal, all of it is read first.
-pub(crate) fn first<R: Print + Eprint, S: Read + IsTerminal>(
-    rt: &R,
-    source: &mut Source<S>,
-    script: &mut [u8],
-) -> Feed
-    requires { room ≡ length script.old }
-    ensures { (result.at ≡ 0) × Fed result }
-{
-    if source.is_terminal() {
-        return line_from(rt, source, script, 0, 0, true);
-    }
-    match input::read_all(source, &mut *script) {
-        Input::Whole(n) => {
-            if SCRIPT < n {
-                return over(0, 0, too_long(rt));
-            }
-            line_from(rt, source, script, 0, n, false)
-        }
-        Input::Failed => over(0, 0, unread(rt, source.error())),
-    }
-}
-
-// The line after a line.
-pub(crate) fn next<R: Print + Eprint, S: Read>(
-    rt: &R,
-    source: &mut Source<S>,
-    script: &mut [u8],
-    f: Feed,
-) -> Feed
-    requires fed { Fed f }
-    requires room_value { room ≡ length script.old }
-    ensures { (result.at ≡ f.next) × Fed result }
-{
-    let at = f.next;
-    let have = f.have;
-    if have < at {
-        return over(at, have, 0);
-    }
-    line_from(rt, source, script, at, have, f.more)
 }

@@ -1,9 +1,10 @@
 // The commands, a line each.
-use crate::out::Out;
+use std::io;
+use std::io::Write;
 
-pub(crate) fn help<R: Print + Eprint>(out: &mut Out<'_, R>) {
-    out.text(
-        "image N         lends N words of image, all zeros\n\
+pub(crate) fn help<W: Write>(out: &mut W) -> io::Result<()> {
+    out.write_all(
+        b"image N         lends N words of image, all zeros\n\
         word I V        puts V at word I of the image\n\
         buffer N        lends N bytes of log, each 46\n\
         bytes AT B ..   puts the bytes B into the log from AT on\n\
@@ -29,5 +30,5 @@ pub(crate) fn help<R: Print + Eprint>(out: &mut Out<'_, R>) {
         show            the image\n\
         log N           the first N bytes of the log\n\
         help            these lines\n",
-    );
+    )
 }

@@ -13,13 +13,13 @@ mod run;
 mod say;
 mod show;
 mod start;
+mod status;
 
 ghost use Rattle.std.specs.Prelude.{◌≡◌, length};
-ghost use Rattle.shell.specs.Feed.{room};
 
 use crate::run::run;
 use crate::start::has_argument;
-use input::Source;
+use crate::status::Status;
 use std::env::Env;
 use std::fs::OpenOptions;
 use std::io;
@@ -29,29 +29,30 @@ use std::rt::Files;
 // Where whoever started the program reads its status.
 const STATUS: &str = "/dev/fd/3";
 
-// Room for a script, and one byte more.
-fn script_space() -> [u8; 1048577]
-    ensures { room ≡ length result }
+// A function of its own: at the literal [0; 1048577] the check runs out of stack.
+fn zeros<const N: usize>() -> [u8; N]
+    ensures { N ≡ length result }
 {
-    [0; 1048577]
+    [0; N]
 }
 
 // Writes the status as a line on descriptor 3.
-fn write_status<R: Files>(rt: &R, status: u8) -> io::Result<()> {
+fn write_status<R: Files>(rt: &R, status: Status) -> io::Result<()> {
     let mut to = OpenOptions::new().append(true).open(rt, STATUS)?;
     writeln!(to, "{status}")
 }
 
 // The program's exit status is 0 in any case: with an argument it writes its status on descriptor 3, for whoever started it.
-fn tell<R: Env + Files>(rt: &R, status: u8) {
+fn tell<R: Env + Files>(rt: &R, status: Status) {
     if has_argument(rt, 1) {
         let _ = write_status(rt, status);
     }
 }
 
 fn main(rt: HostRuntime) {
-    let mut script = script_space();
-    let mut source = Source::new(rt.stdin());
+    // A script has at most 1,048,576 bytes, and one byte more tells a longer one.
+    let mut script = zeros::<1048577>();
+    let mut source = rt.stdin();
     let status = run(&rt, &mut source, &mut script);
     tell(&rt, status);
 }

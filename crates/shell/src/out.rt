@@ -1,107 +1,51 @@
-// What is written waits in a buffer, and goes out where the buffer is full, before the log's own bytes, after a line that is `what?`, after
-// each line at a terminal, and at the end. Once a write failed, nothing is written any more.
-use input::fail;
-use std::fmt::InlineText;
+// What is written waits in a buffer, and goes out where the buffer is full, after a line that is `what?`, after each line at a terminal, and at
+// the end. (std's BufWriter has its buffer on the heap, and writes what a failed write left once more when it is let go.)
+ghost use Rattle.std.specs.Prelude.{◌<◌};
+
+use std::io;
+use std::io::Write;
 
 const ROOM: usize = 4096;
-
-// More than ever wait: a write failed.
-pub(crate) const LOST: usize = ROOM;
 
 #[derive(Drop)]
 pub(crate) struct Out<'a, R> {
     rt: &'a R,
-    bytes: [u8; 4096],
-    // How many bytes wait, or LOST.
-    at: usize,
+    bytes: [u8; ROOM],
+    // How many bytes wait.
+    waiting: usize,
+
+    ghost room: { waiting < 4096 },
 }
 
-fn space() -> [u8; 4096] {
-    [0; 4096]
-}
-
-// Writes bytes at once, and answers how many wait then: none, or LOST.
-pub(crate) fn send<R: Print + Eprint>(rt: &R, bytes: &[u8]) -> usize {
-    match rt.write_all(bytes) {
-        Ok(()) => 0,
-        Err(e) => {
-            fail(rt, "shell: the answers cannot be written", e);
-            LOST
-        }
-    }
-}
-
-// Writes the first so many bytes, or all.
-fn send_front<R: Print + Eprint>(rt: &R, bytes: &[u8], n: usize) -> usize {
-    if n < bytes.len() {
-        return send(rt, &bytes[..n]);
-    }
-    send(rt, bytes)
-}
-
-impl<'a, R: Print + Eprint> Out<'a, R> {
+impl<'a, R> Out<'a, R> {
     pub(crate) fn new(rt: &'a R) -> Out<'a, R> {
         Out {
             rt,
-            bytes: space(),
-            at: 0,
+            bytes: [0; ROOM],
+            waiting: 0,
         }
     }
+}
 
-    // Whether a write failed.
-    pub(crate) fn is_lost(&self) -> bool {
-        self.at >= LOST
-    }
-
-    pub(crate) fn byte(&mut self, b: u8) {
-        let at = self.at;
-        if at < ROOM {
-            self.bytes[at] = b;
-            self.at = at + 1;
-            if self.at == ROOM {
-                self.at = send(self.rt, &self.bytes);
-            }
+impl<R: Print> Write for Out<'_, R> {
+    fn write(&mut self, buf: &[u8]) -> io::Result<usize> {
+        let at = self.waiting;
+        let n = buf.len().min(ROOM - at);
+        let end = at + n;
+        self.bytes[at..end].copy_from_slice(&buf[..n]);
+        if end < ROOM {
+            self.waiting = end;
+        } else {
+            self.waiting = 0;
+            self.rt.write_all(&self.bytes)?;
         }
-    }
-
-    pub(crate) fn text(&mut self, text: &str) {
-        for b in text.as_bytes() {
-            self.byte(*b);
-        }
-    }
-
-    pub(crate) fn decimal(&mut self, v: u64) {
-        let digits: InlineText<20> = InlineText::of(v);
-        self.text(digits.as_str());
-    }
-
-    // A space and a number.
-    pub(crate) fn number(&mut self, v: u64) {
-        self.byte(b' ');
-        self.decimal(v);
-    }
-
-    // A word, a space and a number.
-    pub(crate) fn valued(&mut self, word: &str, v: u64) {
-        self.text(word);
-        self.number(v);
-    }
-
-    pub(crate) fn end(&mut self) {
-        self.byte(b'\n');
-    }
-
-    // Writes the first so many bytes, or all, where nothing waits.
-    pub(crate) fn send_front(&mut self, bytes: &[u8], n: usize) {
-        if self.at < ROOM {
-            self.at = send_front(self.rt, bytes, n);
-        }
+        Ok(n)
     }
 
     // Writes what waits.
-    pub(crate) fn flush(&mut self) {
-        if self.at < ROOM {
-            self.at = send_front(self.rt, &self.bytes, self.at);
-        }
+    fn flush(&mut self) -> io::Result<()> {
+        let n = self.waiting;
+        self.waiting = 0;
+        self.rt.write_all(&self.bytes[..n])
     }
 }

@@ -1,22 +1,22 @@
 // What a line is answered, as text. Nothing here can change what is lent: it is shared.
 ghost use Rattle.desk.specs.Desk.{Lent};
 
-use crate::answer::{answered, asked, closed, counted, found, freed, listed, ok, recovered, what};
+use crate::answer::{answered, asked, closed, found, freed, listed, recovered};
 use crate::digest::digest;
 use crate::help::help;
-use crate::out::Out;
 use crate::show::show;
 use desk::{Desk, Response};
 use image::WORDS;
 use scripts::order::Look;
+use std::io;
+use std::io::Write;
 
-// The first n bytes of the lent buffer, as they are, after what waits.
-fn front<R: Print + Eprint>(out: &mut Out<'_, R>, n: usize, log: &[u8]) {
-    out.flush();
-    out.send_front(log, n);
+// The first n bytes of the lent buffer, as they are.
+fn front<W: Write>(out: &mut W, n: usize, log: &[u8]) -> io::Result<()> {
+    out.write_all(&log[..n.min(log.len())])
 }
 
-fn seen<R: Print + Eprint>(out: &mut Out<'_, R>, l: Look, img: &[u32], log: &[u8]) {
+fn seen<W: Write>(out: &mut W, l: Look, img: &[u32], log: &[u8]) -> io::Result<()> {
     match l {
         Look::Read(n) => found(out, catalogue::read(img, n)),
         Look::Ask(n) => asked(out, catalogue::ask(img, n)),
@@ -29,26 +29,27 @@ fn seen<R: Print + Eprint>(out: &mut Out<'_, R>, l: Look, img: &[u32], log: &[u8
 }
 
 // The same of the words and bytes that are lent.
-fn seen_on<R: Print + Eprint>(out: &mut Out<'_, R>, l: Look, d: Desk, img: &[u32], log: &[u8])
+fn seen_on<W: Write>(out: &mut W, l: Look, d: Desk, img: &[u32], log: &[u8]) -> io::Result<()>
     requires { Lent d img.now log.now }
 {
-    seen(out, l, &img[..d.words], &log[..d.bytes]);
+    seen(out, l, &img[..d.words], &log[..d.bytes])
 }
 
-pub(crate) fn say<R: Print + Eprint>(
-    out: &mut Out<'_, R>,
+// (A function and no Display: what is said needs what is lent.)
+pub(crate) fn say<W: Write>(
+    out: &mut W,
     said: Response,
     d: Desk,
     img: &[u32; WORDS],
     log: &[u8; 65536],
-)
+) -> io::Result<()>
     requires { Lent d img.now log.now }
 {
     match said {
-        Response::Nothing => {}
-        Response::What => what(out),
-        Response::Ok => ok(out),
-        Response::Waits(n) => counted(out, "waits", n),
+        Response::Nothing => Ok(()),
+        Response::What => writeln!(out, "what?"),
+        Response::Ok => writeln!(out, "ok"),
+        Response::Waits(n) => writeln!(out, "waits {n}"),
         Response::Done(a) => answered(out, a),
         Response::Closed(c) => closed(out, c),
         Response::Freed(f) => freed(out, f),

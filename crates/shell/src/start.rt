@@ -1,13 +1,15 @@
 // What is lent before the first line: nothing, or, where the program has two arguments, the log on descriptor 4 and an image for it.
-ghost use Rattle.std.specs.Prelude.{◌≡◌, ◌≤◌, length};
+ghost use Rattle.std.specs.Prelude.{◌≡◌, ◌≤◌, IfOk, length};
 ghost use Rattle.shell.specs.Feed.{Begun};
 
+use crate::status::Status;
 use desk::Desk;
-use input::{Input, Source, fail};
+use input::fail;
 use reporting::asked::asked_of;
 use std::env::{Env, FillError};
 use std::fs::File;
 use std::io;
+use std::io::Read;
 use std::rt::Files;
 
 // Where a log that is lent stands.
@@ -16,86 +18,55 @@ const LOG: &str = "/dev/fd/4";
 // The most bytes of a log buffer.
 const MOST: usize = 65536;
 
-#[derive(Clone, Copy)]
-pub(crate) struct Start {
-    pub desk: Desk,
-    pub failed: bool,
+// Why a log is not lent.
+#[derive(Drop)]
+pub(crate) enum Unlent {
+    Unread(io::Error),
+    TooLong,
 }
 
-// Room for the bytes of a log, and one more.
-fn log_space() -> [u8; 65537]
-    ensures { 65537 ≡ length result }
-{
-    [0; 65537]
-}
-
-// Nothing is lent.
-fn nothing(failed: bool) -> Start
-    ensures { Begun result }
-{
-    Start {
-        desk: Desk::new(),
-        failed: failed,
+impl From<io::Error> for Unlent {
+    fn from(error: io::Error) -> Unlent {
+        Unlent::Unread(error)
     }
 }
 
-fn unread<R: Eprint>(rt: &R, error: io::Error) -> Start
-    ensures { Begun result }
-{
-    fail(rt, "shell: the log cannot be read", error);
-    nothing(true)
-}
-
-fn too_long<R: Eprint>(rt: &R) -> Start
-    ensures { Begun result }
-{
-    let _ = eprintln!(rt; "shell: the log has over 65536 bytes");
-    nothing(true)
-}
-
-fn tell<R: Eprint>(rt: &R, bytes: usize, words: usize) {
-    let _ = eprintln!(rt; "lent {bytes} bytes, {words} words");
+impl Unlent {
+    // Says so on standard error.
+    pub(crate) fn tell<R: Eprint>(self, rt: &R) -> Status {
+        match self {
+            Unlent::Unread(error) => fail(rt, "shell: the log cannot be read", error),
+            Unlent::TooLong => {
+                let _ = eprintln!(rt; "shell: the log has over 65536 bytes");
+            }
+        }
+        Status::Failed
+    }
 }
 
 // A log is lent, and an image of as many words as its heading asks for.
-fn lend<R: Eprint>(rt: &R, bytes: &[u8], log: &mut [u8]) -> Start
+fn lend<R: Eprint>(rt: &R, bytes: &[u8], log: &mut [u8]) -> Desk
     requires { (length bytes.now ≤ 65536) × (65536 ≡ length log.old) }
     ensures { Begun result }
 {
-    log[..bytes.len()].copy_from_slice(bytes);
-    let a = asked_of(bytes);
-    tell(rt, bytes.len(), a.words);
-    Start {
-        desk: Desk::lent(a.words, bytes.len()),
-        failed: false,
-    }
+    let n = bytes.len();
+    log[..n].copy_from_slice(bytes);
+    let words = asked_of(bytes).map_or(0, |a| a.words);
+    let _ = eprintln!(rt; "lent {n} bytes, {words} words");
+    Desk::lent(words, n)
 }
 
-fn load<R: Files + Eprint>(rt: &R, log: &mut [u8]) -> Start
+fn load<R: Eprint, S: Read>(rt: &R, source: &mut S, log: &mut [u8]) -> Result<Desk, Unlent>
     requires { 65536 ≡ length log.old }
-    ensures { Begun result }
+    ensures { IfOk result Begun }
 {
-    match File::open(rt, LOG) {
-        Ok(file) => load_from(rt, file, log),
-        Err(e) => unread(rt, e),
+    // Room for the bytes of a log, and one more.
+    let mut space = [0u8; 65537];
+    let n = input::read_all(source, &mut space)?;
+    if MOST < n {
+        return Err(Unlent::TooLong);
     }
-}
-
-fn load_from<R: Eprint, F: io::Read + Drop>(rt: &R, file: F, log: &mut [u8]) -> Start
-    requires { 65536 ≡ length log.old }
-    ensures { Begun result }
-{
-    let mut space = log_space();
-    let mut source = Source::new(file);
-    match input::read_all(&mut source, &mut space) {
-        Input::Whole(n) => {
-            if MOST < n {
-                return too_long(rt);
-            }
-            lend(rt, &space[..n], log)
-        }
-        Input::Failed => unread(rt, source.error()),
-    }
+    Ok(lend(rt, &space[..n], log))
 }
 
 // Whether the program was started with an argument of this number; 0 is its own name.
@@ -104,12 +75,13 @@ pub(crate) fn has_argument<R: Env>(rt: &R, number: usize) -> bool {
     !matches!(rt.arg(number, &mut start), Err(FillError::NotPresent))
 }
 
-pub(crate) fn begin<R: Env + Files + Eprint>(rt: &R, log: &mut [u8]) -> Start
+pub(crate) fn begin<R: Env + Files + Eprint>(rt: &R, log: &mut [u8]) -> Result<Desk, Unlent>
     requires { 65536 ≡ length log.old }
-    ensures { Begun result }
+    ensures { IfOk result Begun }
 {
-    if has_argument(rt, 2) {
-        return load(rt, log);
+    if !has_argument(rt, 2) {
+        return Ok(Desk::new());
     }
-    nothing(false)
+    let mut file = File::open(rt, LOG)?;
+    load(rt, &mut file, log)
 }

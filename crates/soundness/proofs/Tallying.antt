@@ -8,16 +8,17 @@ use mathlib.Core.List.{List}
 use native.Mathlib.Omega.{arith}
 use native.Mathlib.Nat.{add-mul, one-mul, mul-le-mul}
 use lib.Dec.{eqb}
+use mir.Val.{bool_byte}
 use lib.ListN.{length, get_or, set, replicate, length-set, length-replicate}
 use lib.Seq.{get_or-set_same, get_or-set_other}
 use borrow.Author.Tests.{eq-eqb, ne_eqb, le-leb, lt-leb}
 use Rattle.loops.specs.Loop.{both, bit, every, tally}
-use Rattle.loops.proofs.Tests.{both_false, both_self, is_false, clash, eq_or_ne}
+use Rattle.loops.proofs.Tests.{both_false, both_self, clash, bit_le, eq_or_ne}
 use Rattle.loops.proofs.Loops.{tally_le, every_so}
 use Rattle.loops.proofs.Turns.{tally_more}
 use Rattle.kinds.specs.Names.{most_partitions, most_places}
 use Rattle.model.specs.Image.{Image, state, field, get, place_of, part_of, abroad}
-use Rattle.model.specs.Sound.{points, in_count, ref_ok, free_ok, slot_ok, Free}
+use Rattle.model.specs.Sound.{points, in_count, ref_ok, free_ok, slot_ok}
 use Rattle.model.proofs.Keys.{zeros}
 use Rattle.model.proofs.Places.{part_of_lem}
 use Rattle.model.proofs.Soundness.{ref_nothing, free_true}
@@ -31,6 +32,14 @@ places {P} {S} h = product most_partitions P S h.limits.partitions_most h.limits
 -- what a test that fails answers, and owes no tally
 pub fails : {A : Type 0} {b : Bool} → b ≡ false → (false ≡ b) × (◌≡◌ {A = Bool} false true → A)
 fails e = (sym e, λ r. absurd (clash r refl))
+
+-- a test as the number that is added for it
+pub byte_bit : (b : Bool) → bool_byte b ≡ bit b
+byte_bit true = refl
+byte_bit false = refl
+
+pub byte_le : {n : ℕ} (b : Bool) → n ≡ bool_byte b → n ≤ 1
+byte_le b e = omega (arith, e, byte_bit b, bit_le b)
 
 -- at first nothing is tallied
 pub tallied_none : (S : ℕ) (x : Image) (c : List ℕ) → c ≡ replicate most_places 0 → Tallied S x 0 c
@@ -79,9 +88,6 @@ tallied_free {S} {x} j {c} e t = tallied_at (4 * j + 4) (4 * (j + 1)) (omega ari
     skip (suc k) l = tallied_at (4 * j + k + 1) (4 * j + suc k) (omega arith) (tallied_nothing j k (omega arith) _ refl (skip k (omega arith)) ((free_true x j e).fields k (omega arith)))
 
 -- a slot: free, with an unknown state, in use
-pub free_not : (x : Image) (j : ℕ) → (Free x j → ⊥) → false ≡ free_ok x j
-free_not x j h = sym (is_false (free_ok x j) (λ e. h (free_true x j e)))
-
 fields_free : (P S : ℕ) (x : Image) (j : ℕ) → both (every 4 (λ k. ref_ok P S x (field j k))) (free_ok x j) ≡ free_ok x j
 fields_free P S x j = go (free_ok x j) refl
   where

@@ -1,25 +1,41 @@
 // Soundness as code: `sound` takes any words of any length and answers true exactly when the model's test does (`is_sound`; that the
 // test passes exactly for the paper's conditions is `sound_true` and `Sound-back` of the model's proofs/Soundness.antt).
 // One pass goes over the slots and tallies, by the place that it names, every reference to another partition; then the counts are compared with
-// the tally. One loop (`all`) makes the other tests, over an enum of checks. Each field and count is read once, a
+// the tally, and the anchors, the flags and what the phase asks are tested. Each field and count is read once, a
 // state once more for every reference to it; no pass divides by S.
 // P and S are compared before anything is multiplied, and a place is known before its state is read.
 #![tactic(auto)]
 
-ghost use Rattle.std.specs.Prelude.{◌≡◌, ◌+◌, ◌*◌, ◌<◌, ◌≤◌, true, not, eqb, replicate};
-ghost use Rattle.loops.specs.Loop.{bit, every};
-ghost use Rattle.kinds.specs.Names.{most_slots, most_places};
-ghost use Rattle.model.specs.Image.{Key, flag, state, field, Has, get, part_of};
-ghost use Rattle.model.specs.Sound.{ref_ok, free_ok, slot_ok, count_ok, flag_ok, flag_down, unmarked_at, open_ok, shut_ok, sound_at, is_sound};
-ghost use Rattle.soundness.specs.Checks.{Shaped, Tallied, reach, test_at};
+ghost use Rattle.std.specs.Prelude.{◌≡◌, ◌≢◌, ◌+◌, ◌*◌, ◌<◌, ◌≤◌, true, false, replicate};
+ghost use Rattle.std.specs.Option.{MatchOption};
+ghost use Rattle.loops.specs.Loop.{every};
+ghost use Rattle.kinds.specs.Names.{most_partitions, most_slots, most_places};
+ghost use Rattle.model.specs.Image.{Key, flag, field, anchors, Has, get, part_of};
+ghost use Rattle.model.specs.Sound.{ref_ok, free_ok, slot_ok, count_ok, anchor_ok, flag_ok, flag_down, unmarked_at, open_ok, shut_ok, sound_at, is_sound};
+ghost use Rattle.soundness.specs.Checks.{Shaped, NamesSlot, Tallied};
 
-// What is tested at every index beside the slots: the roots and handles, the flags, and with the phase shut that no flag is up and nothing is marked.
-#[derive(Clone, Copy)]
-enum Check {
-    Anchor,
-    Flag,
-    Down,
-    Unmarked,
+// The fields of a slot, and the flags of an image.
+const FIELDS: usize = kinds::Field::LIMIT as usize;
+
+const FLAGS: usize = kinds::Partition::LIMIT as usize;
+
+// What a reference word names, if that is a slot in use: its partition and its place.
+fn named(img: &[u32], p: usize, s: usize, w: u32) -> Option<(usize, usize)>
+    requires shaped { Shaped p s img.now }
+    requires some { w ≢ 0 }
+    ensures { (κ : Key) → get img.now κ ≡ w → MatchOption result (ref_ok p s img.now κ ≡ false) (λ t. NamesSlot p s img.now κ t.0 t.1) }
+{
+    let v = w as usize - 1;
+    let q = v / kinds::Name::RADIX as usize;
+    if p <= q {
+        return None;
+    }
+    let t = v % kinds::Name::RADIX as usize;
+    if s <= t {
+        return None;
+    }
+    let j = q * s + t;
+    (image::state_at(img, j) != 0).then_some((q, j))
 }
 
 // A reference word is nothing or names a slot in use, whatever key it stands at.
@@ -27,38 +43,11 @@ fn ref_ok(img: &[u32], p: usize, s: usize, w: u32) -> bool
     requires { Shaped p s img.now }
     ensures { (κ : Key) → get img.now κ ≡ w → result ≡ ref_ok p s img.now κ }
 {
-    if w == 0 {
-        return true;
-    }
-    let k = w - 1;
-    let q = k / kinds::Target::RADIX;
-    if p <= q as usize {
-        return false;
-    }
-    let t = k % kinds::Target::RADIX;
-    if s <= t as usize {
-        return false;
-    }
-    let j = image::place_of(w, s);
-    if image::state_at(img, j) == 0 {
-        return false;
-    }
-    true
+    w == 0 || named(img, p, s, w).is_some()
 }
 
-// 1 where a reference from partition q leads to another, r, else 0. It is added without a branch: own and foreign references come in no order
-// that a processor could foresee.
-fn foreign(q: usize, r: usize) -> u32
-    ensures { (result ≡ bit (not (eqb q r))) × (result ≤ 1) }
-{
-    if q == r {
-        return 0;
-    }
-    1
-}
-
-// Field k of place j, which is in partition q: it is nothing or names a slot in use, and a foreign reference is tallied. (`ref_ok` spelled out: the
-// tally needs the partition and the place that it computes, and a call of it with both computed again costs a call of the catalogue 4 %.)
+// Field k of place j, which is in partition q: it is nothing or names a slot in use, and a foreign reference is tallied. (The 0 or 1 is added
+// without a branch: own and foreign references come in no order that a processor could foresee.)
 fn field(
     img: &[u32],
     p: usize,
@@ -73,24 +62,14 @@ fn field(
     requires tallied { Tallied s img.now (4 * j + k) counts.old }
     ensures { (result ≡ ref_ok p s img.now (field j k)) × (result ≡ true → Tallied s img.now (4 * j + k + 1) counts.new) }
 {
-    let w = image::field_at(img, j, k) as usize;
+    let w = image::field_at(img, j, k);
     if w == 0 {
         return true;
     }
-    let v = w - 1;
-    let r = v / kinds::Target::RADIX as usize;
-    if p <= r {
+    let Some((r, i)) = named(img, p, s, w) else {
         return false;
-    }
-    let t = v % kinds::Target::RADIX as usize;
-    if s <= t {
-        return false;
-    }
-    let i = r * s + t;
-    if image::state_at(img, i) == 0 {
-        return false;
-    }
-    counts[i] = counts[i] + foreign(q, r);
+    };
+    counts[i] += u32::from(q != r);
     true
 }
 
@@ -108,13 +87,10 @@ fn fields(
     requires tallied { Tallied s img.now (4 * j) counts.old }
     ensures { (result ≡ every 4 (λ k. ref_ok p s img.now (field j k))) × (result ≡ true → Tallied s img.now (4 * (j + 1)) counts.new) }
 {
-    let mut k: usize = 0;
-    while k < 4 {
-        let ok = field(img, p, s, q, j, k, &mut *counts);
-        if !ok {
+    for k in 0..FIELDS {
+        if !field(img, p, s, q, j, k, &mut *counts) {
             return false;
         }
-        k += 1;
     }
     true
 }
@@ -124,17 +100,7 @@ fn free_ok(img: &[u32], p: usize, s: usize, j: usize) -> bool
     requires { Shaped p s img.now × (j < p * s) }
     ensures { result ≡ free_ok img.now j }
 {
-    if image::payload_at(img, j) != 0 {
-        return false;
-    }
-    let mut k: usize = 0;
-    while k < 4 {
-        if image::field_at(img, j, k) != 0 {
-            return false;
-        }
-        k += 1;
-    }
-    true
+    image::payload_at(img, j) == 0 && (0..FIELDS).all(|k| image::field_at(img, j, k) == 0)
 }
 
 // Place j, which is in partition q: free it is zeros but for its count, which `counted` compares; in use its state is known and its references name slots in use.
@@ -151,14 +117,11 @@ fn slot(
     requires tallied { Tallied s img.now (4 * j) counts.old }
     ensures { (result ≡ slot_ok p s img.now j) × (result ≡ true → Tallied s img.now (4 * (j + 1)) counts.new) }
 {
-    let x = image::state_at(img, j);
-    if x == 0 {
-        return free_ok(img, p, s, j);
+    match image::state_at(img, j) {
+        0 => free_ok(img, p, s, j),
+        1 | 2 => fields(img, p, s, q, j, counts),
+        _ => false,
     }
-    if 2 < x {
-        return false;
-    }
-    fields(img, p, s, q, j, counts)
 }
 
 // The partition of place j, which is in q or the first after q.
@@ -166,10 +129,7 @@ fn partition_at(q: usize, s: usize, j: usize) -> usize
     requires { (0 < s) × (s ≤ most_slots) × (q * s ≤ j) × (j ≤ q * s + s) × (j < most_places) }
     ensures { (result ≡ part_of s j) × (result * s ≤ j) × (j < result * s + s) }
 {
-    if j < q * s + s {
-        return q;
-    }
-    q + 1
+    if j < q * s + s { q } else { q + 1 }
 }
 
 // All places, one partition after the other: each slot is tested, and foreign references are tallied.
@@ -178,16 +138,12 @@ fn slots(img: &[u32], p: usize, s: usize, counts: &mut [u32; kinds::Name::LIMIT]
     requires counts_value { counts.old ≡ replicate most_places 0 }
     ensures { (result ≡ every (p * s) (slot_ok p s img.now)) × (result ≡ true → Tallied s img.now (4 * (p * s)) counts.new) }
 {
-    let n = p * s;
     let mut q: usize = 0;
-    let mut j: usize = 0;
-    while j < n {
+    for j in 0..p * s {
         q = partition_at(q, s, j);
-        let ok = slot(img, p, s, q, j, &mut *counts);
-        if !ok {
+        if !slot(img, p, s, q, j, &mut *counts) {
             return false;
         }
-        j += 1;
     }
     true
 }
@@ -198,15 +154,15 @@ fn counted(img: &[u32], p: usize, s: usize, counts: &[u32; kinds::Name::LIMIT]) 
     requires tallied { Tallied s img.now (4 * (p * s)) counts.now }
     ensures { result ≡ every (p * s) (count_ok s (p * s) img.now) }
 {
-    let end = p * s;
-    let mut j: usize = 0;
-    while j < end {
-        if image::inlist_at(img, j) != counts[j] {
-            return false;
-        }
-        j += 1;
-    }
-    true
+    (0..p * s).all(|j| image::inlist_at(img, j) == counts[j])
+}
+
+// The roots and handles are nothing or name slots in use.
+fn anchors(img: &[u32], p: usize, s: usize) -> bool
+    requires { Shaped p s img.now }
+    ensures { result ≡ every anchors (anchor_ok p s img.now) }
+{
+    (0..image::ANCHORS).all(|a| ref_ok(img, p, s, image::anchor_at(img, a)))
 }
 
 // A flag is 0 or 1, and 0 from partition P on.
@@ -215,69 +171,31 @@ fn flag_ok(img: &[u32], p: usize, i: usize) -> bool
     ensures { result ≡ flag_ok p img.now i }
 {
     let x = image::flag_at(img, i);
-    if 1 < x {
-        return false;
-    }
-    if i < p {
-        return true;
-    }
-    if x == 0 {
-        return true;
-    }
-    false
+    x <= 1 && (i < p || x == 0)
 }
 
-// A flag is 0.
-fn flag_down(img: &[u32], i: usize) -> bool
-    requires { Has img.now (flag i) }
-    ensures { result ≡ flag_down img.now i }
+// All flags are.
+fn flags(img: &[u32], p: usize, s: usize) -> bool
+    requires { Shaped p s img.now }
+    ensures { result ≡ every most_partitions (flag_ok p img.now) }
 {
-    if image::flag_at(img, i) == 0 {
-        return true;
-    }
-    false
+    (0..FLAGS).all(|i| flag_ok(img, p, i))
 }
 
-// A place has no mark.
-fn unmarked(img: &[u32], j: usize) -> bool
-    requires { Has img.now (state j) }
-    ensures { result ≡ unmarked_at img.now j }
+// All flags are 0.
+fn flags_down(img: &[u32], p: usize, s: usize) -> bool
+    requires { Shaped p s img.now }
+    ensures { result ≡ every most_partitions (flag_down img.now) }
 {
-    if image::state_at(img, j) == 2 {
-        return false;
-    }
-    true
+    (0..FLAGS).all(|i| image::flag_at(img, i) == 0)
 }
 
-// One check at one index.
-fn test(img: &[u32], p: usize, s: usize, k: Check, i: usize) -> bool
-    requires shaped { Shaped p s img.now }
-    requires i_bound { i < reach p s k }
-    ensures { result ≡ test_at p s img.now k i }
+// No place has a mark.
+fn unmarked(img: &[u32], p: usize, s: usize) -> bool
+    requires { Shaped p s img.now }
+    ensures { result ≡ every (p * s) (unmarked_at img.now) }
 {
-    match k {
-        Check::Anchor => ref_ok(img, p, s, image::anchor_at(img, i)),
-        Check::Flag => flag_ok(img, p, i),
-        Check::Down => flag_down(img, i),
-        Check::Unmarked => unmarked(img, i),
-    }
-}
-
-// A check at the first n of its indexes.
-fn all(img: &[u32], p: usize, s: usize, k: Check, n: usize) -> bool
-    requires shaped { Shaped p s img.now }
-    requires n_bound { n ≤ reach p s k }
-    ensures { result ≡ every n (test_at p s img.now k) }
-{
-    let mut i: usize = 0;
-    while i < n {
-        let ok = test(img, p, s, k, i);
-        if !ok {
-            return false;
-        }
-        i += 1;
-    }
-    true
+    (0..p * s).all(|j| image::state_at(img, j) != 2)
 }
 
 // With the phase open: the allowance is at most P + P * S, traces counted are at most the allowance.
@@ -286,13 +204,7 @@ fn open_ok(img: &[u32], p: usize, s: usize) -> bool
     ensures { result ≡ open_ok p s img.now }
 {
     let a = image::head_at(img, image::ALLOWANCE);
-    if p + p * s < a as usize {
-        return false;
-    }
-    if a < image::head_at(img, image::COUNT) {
-        return false;
-    }
-    true
+    a as usize <= p + p * s && image::head_at(img, image::COUNT) <= a
 }
 
 // With it shut: words 3 and 4 and all flags are 0 and nothing is marked.
@@ -300,17 +212,10 @@ fn shut_ok(img: &[u32], p: usize, s: usize) -> bool
     requires { Shaped p s img.now }
     ensures { result ≡ shut_ok p s img.now }
 {
-    if image::head_at(img, image::COUNT) != 0 {
-        return false;
-    }
-    if image::head_at(img, image::ALLOWANCE) != 0 {
-        return false;
-    }
-    let down = all(img, p, s, Check::Down, kinds::Partition::LIMIT as usize);
-    if !down {
-        return false;
-    }
-    all(img, p, s, Check::Unmarked, p * s)
+    image::head_at(img, image::COUNT) == 0
+        && image::head_at(img, image::ALLOWANCE) == 0
+        && flags_down(img, p, s)
+        && unmarked(img, p, s)
 }
 
 // An image of the right length is sound: the phase, the slots, their counts, the roots and handles, the flags, and what the phase asks.
@@ -323,26 +228,15 @@ fn sound_at(img: &[u32], p: usize, s: usize) -> bool
         return false;
     }
     let mut counts = image::zeros();
-    let ok = slots(img, p, s, &mut counts);
-    if !ok {
-        return false;
-    }
-    let right = counted(img, p, s, &counts);
-    if !right {
-        return false;
-    }
-    let anchors = all(img, p, s, Check::Anchor, image::ANCHORS);
-    if !anchors {
-        return false;
-    }
-    let flags = all(img, p, s, Check::Flag, kinds::Partition::LIMIT as usize);
-    if !flags {
-        return false;
-    }
-    if phase == 1 {
-        return open_ok(img, p, s);
-    }
-    shut_ok(img, p, s)
+    slots(img, p, s, &mut counts)
+        && counted(img, p, s, &counts)
+        && anchors(img, p, s)
+        && flags(img, p, s)
+        && if phase == 1 {
+            open_ok(img, p, s)
+        } else {
+            shut_ok(img, p, s)
+        }
 }
 
 // The image is sound.
@@ -357,7 +251,7 @@ pub fn sound(img: &[u32]) -> bool
     // refusal 2 of format is the first test of soundness: P, S and the length
     let v = image::judge_format(img.len(), p, s);
     match v {
-        kinds::Verdict::Accepted => sound_at(img, p as usize, s as usize),
-        kinds::Verdict::Refused(_) => false,
+        Ok(()) => sound_at(img, p as usize, s as usize),
+        Err(_) => false,
     }
 }

@@ -4,7 +4,7 @@ use Rattle.loops.specs.Loop.{both, each}
 use Rattle.kinds.specs.Names.{most_places}
 use Rattle.model.specs.Image.{Image, anchor, field, anchors, get, place_of}
 use Rattle.model.specs.Spread.{spread}
-use Rattle.model.specs.Walk.{Todo, Longer}
+use Rattle.model.specs.Walk.{Todo}
 use Rattle.model.specs.Acts.{refers, target}
 use Rattle.model.specs.Questions.{Bits, has_bit, add_bit}
 
@@ -34,8 +34,3 @@ pub record Noted (lo n : ℕ) (marks : Bits) (list : List ℕ) (m : ℕ) : Type 
   pub long : length list ≡ most_places
   pub fit : lo + n ≤ most_places
   pub todo : Todo has_bit (λ i. lo + i) n marks list m
-
--- more is noted, what stood in a list of m staying where it was
-pub record More (lo n : ℕ) (list : List ℕ) (m : ℕ) (marks' : Bits) (list' : List ℕ) (m' : ℕ) : Type 0 where
-  pub noted : Noted lo n marks' list' m'
-  pub longer : Longer list m list' m'

@@ -4,7 +4,7 @@ use Prim.Native.Nat.{ℕ}
 use mathlib.Core.Path.{◌≡◌}
 use mathlib.Core.Bool.{Bool, true, false}
 use Rattle.kinds.specs.Answers.{refuse}
-use Rattle.kinds.specs.declared.Verdict.{Verdict}
+use Rattle.kinds.specs.Answers.{Verdict}
 use Rattle.model.specs.Judge.{check}
 
 pub passes : {b : Bool} (n e : ℕ) {v r : Verdict} → b ≡ true → r ≡ v → r ≡ check b n e v

@@ -11,8 +11,8 @@ use borrow.Author.Tests.{ltb-true, lt-ltb, le-ltb, eq-eqb, ne_eqb}
 use Rattle.loops.proofs.Tests.{both_true, both_false}
 use Rattle.kinds.specs.Answers.{refuse}
 use Rattle.kinds.specs.declared.Name.{Name}
-use Rattle.kinds.specs.declared.Verdict.{Verdict}
-use Rattle.kinds.specs.declared.Verdict.TheVariants.{Accepted}
+use Rattle.kinds.specs.Answers.{Verdict}
+use Rattle.kinds.specs.Answers.{allowed}
 use Rattle.model.specs.Image.{Image, state, get, place}
 use Rattle.model.specs.Judge.{judge_name, check, in_heap}
 
@@ -30,15 +30,15 @@ module _ (P S : ℕ) (x : Image) (n : Name) where
     unfolding judge_name check
     judge_absent h = rw (lt-ltb n.partition.0 P p, lt-ltb n.slot.0 S s, ← at, ← e, eq-eqb v 0 h)
 
-    pub judge_accepts : v ≢ 0 → Accepted ≡ judge_name P S x n
+    pub judge_accepts : v ≢ 0 → allowed ≡ judge_name P S x n
     unfolding judge_name check
     judge_accepts h = rw (lt-ltb n.partition.0 P p, lt-ltb n.slot.0 S s, ← at, ← e, ne_eqb v 0 h)
 
   -- what is known of an accepted name
-  pub accepted_in : judge_name P S x n ≡ Accepted → place S n < P * S
+  pub accepted_in : judge_name P S x n ≡ allowed → place S n < P * S
   unfolding judge_name check
   accepted_in e = go (in_heap P S n) refl _ e
     where
-      go : (b : Bool) → in_heap P S n ≡ b → (v : Verdict) → check b 7 0 v ≡ Accepted → place S n < P * S
+      go : (b : Bool) → in_heap P S n ≡ b → (v : Verdict) → check b 7 0 v ≡ allowed → place S n < P * S
       go true q v e = let h = both_true (ltb n.partition.0 P) (ltb n.slot.0 S) q in digits_lt (ltb-true _ _ h.0) (ltb-true _ _ h.1)
       go false q v e = let z : ◌≡◌ {A = ℕ} 0 1 = cc in absurd (omega arith)

@@ -1,62 +1,32 @@
 -- What each search tells a judge.
 -- Assumes nothing.
 use Prim.Native.Nat.{ℕ, ◌*◌, ◌≤◌, ◌<◌}
-use mathlib.Core.Path.{◌≡◌, refl, ap}
-use mathlib.Core.Bool.{Bool, true, false, not, cond}
+use mathlib.Core.Logic.{◌≢◌}
+use mathlib.Core.Path.{◌≡◌, refl}
+use mathlib.Core.Bool.{Bool, true≢false}
 use native.Mathlib.Omega.{arith}
 use lib.Dec.{eqb}
-use borrow.Author.Tests.{eq-eqb, ne_eqb}
-use Rattle.loops.specs.Loop.{first, every}
-use Rattle.loops.proofs.Tests.{both_false}
+use Rattle.std.specs.Prelude.{◌↔◌}
+use Rattle.std.specs.Option.{MatchOption, IfSome, IsNone}
+use Rattle.std.specs.declared.option.Option.{Option}
+use Rattle.std.specs.declared.option.Option.TheVariants.{Some, None}
+use Rattle.loops.specs.Loop.{first}
 use Rattle.loops.proofs.Loops.{tally_some}
-use Rattle.kinds.specs.Names.{roots, fields}
-use Rattle.model.specs.Image.{Image, root, anchor, flag, field, anchors, get}
-use Rattle.model.specs.Acts.{marked, not_clean}
-use Rattle.model.specs.Judge.{rooted, leads_on, led, lowest}
-use Rattle.loops.proofs.Walks.{first_some, first_none, first_fails, first_every, tally_none_pass}
-use Rattle.verdicts.specs.declared.Sought.TheVariants.{Rooted, Unclean, AnchorAstray, SlotAstray}
-use Rattle.verdicts.specs.Searches.{strays, meets}
+use Rattle.loops.proofs.Walks.{first_passes, first_none, tally_none_pass}
+use Rattle.model.specs.Image.{Image, Key, Holder, flag, get, place_of}
+use Rattle.model.specs.Acts.{not_clean}
+use Rattle.model.specs.Judge.{lowest}
+use Rattle.image.specs.Within.{Within}
 
-module _ (S : ℕ) (img : Image) where
-  pub rooted_so : first roots 0 (meets S img Rooted) < roots → rooted img ≡ true
-  unfolding rooted meets
-  rooted_so l = ap not (first_fails roots (meets S img Rooted) (λ r. eqb (get img (root r)) 0) (λ i. refl) l)
+-- the word of a key that holds a reference leads into the heap, if anywhere
+pub leads_in : {P S : ℕ} {img : Image} {κ : Key} {w : ℕ} → w ≡ get img κ → Within P S img → Holder (P * S) κ → w ≢ 0 → place_of S w < P * S
+leads_in {κ = κ} e h k = rw e (h.refs κ k)
 
-  pub rooted_not : roots ≤ first roots 0 (meets S img Rooted) → rooted img ≡ false
-  unfolding rooted meets
-  rooted_not l = ap not (first_every roots (meets S img Rooted) (λ r. eqb (get img (root r)) 0) (λ i. refl) l)
-
-  module _ (P : ℕ) where
-    pub lowest_is : first P 0 (meets S img Unclean) ≡ lowest P img
-    unfolding lowest meets
-    lowest_is = refl
-
-    pub unclean_some : first P 0 (meets S img Unclean) < P → eqb (not_clean P img) 0 ≡ false
-    unfolding not_clean meets
-    unclean_some l =
-        ne_eqb (not_clean P img) 0 (λ e. absurd (omega (arith, e, tally_some P (λ p. eqb (get img (flag p)) 0) (first P 0 (meets S img Unclean)) l (first_some (meets S img Unclean) P 0 (omega arith)))))
-
-    pub unclean_none : P ≤ first P 0 (meets S img Unclean) → eqb (not_clean P img) 0 ≡ true
-    unfolding not_clean meets
-    unclean_none l =
-        eq-eqb (not_clean P img) 0 (tally_none_pass P (λ p. eqb (get img (flag p)) 0) (λ i m. first_none (meets S img Unclean) P 0 (omega arith) i (omega arith) (omega arith)))
-
-    -- a root or a handle leads astray; a marked object does; none does
-    pub led_anchor : first anchors 0 (meets S img AnchorAstray) < anchors → led P S img ≡ false
-    unfolding led meets
-    led_anchor l = rw (first_fails anchors (meets S img AnchorAstray) (λ r. leads_on S img (anchor r)) (λ i. refl) l)
-
-    leads : ℕ → Bool
-    leads j = cond (marked img j) (every fields (λ k. leads_on S img (field j k))) true
-
-    pub led_slot : first (P * S) 0 (meets S img SlotAstray) < P * S → led P S img ≡ false
-    unfolding led meets strays leads
-    led_slot l = rw (first_fails (P * S) (meets S img SlotAstray) leads (λ i. refl) l) (both_false (every anchors (λ r. leads_on S img (anchor r))))
-
-    pub led_so : anchors ≤ first anchors 0 (meets S img AnchorAstray) → P * S ≤ first (P * S) 0 (meets S img SlotAstray) → led P S img ≡ true
-    unfolding led meets strays leads
-    led_so l m =
-        rw (
-          first_every anchors (meets S img AnchorAstray) (λ r. leads_on S img (anchor r)) (λ i. refl) l,
-          first_every (P * S) (meets S img SlotAstray) leads (λ i. refl) m,
-        )
+-- the first partition whose flag is 0 is the lowest that is not clean; where there is none all are
+pub unclean_found : (P : ℕ) (img : Image) (r : Option ℕ) → MatchOption r (P ≤ first P 0 (λ p. eqb (get img (flag p)) 0)) (λ i. (i ≡ first P 0 (λ p. eqb (get img (flag p)) 0)) × (i < P))
+    → (IsNone r ↔ (not_clean P img ≡ 0)) × IfSome r (λ q. q ≡ lowest P img)
+unfolding not_clean lowest
+unclean_found P img None h = let f : ℕ → Bool = λ p. eqb (get img (flag p)) 0 in ((λ e. tally_none_pass P f (λ i l. first_none f P 0 (omega arith) i (omega arith) (omega arith)), λ e. refl), tt)
+unclean_found P img (Some i) h =
+    let f : ℕ → Bool = λ p. eqb (get img (flag p)) 0 in
+    ((λ e. absurd (true≢false e), λ e. absurd (omega (arith, e, tally_some P f (first P 0 f) (omega arith) (first_passes f P (omega arith))))), h.0)

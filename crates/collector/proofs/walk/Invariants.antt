@@ -3,8 +3,8 @@ use Rattle.kinds.specs.Names.{most_slots}
 use Rattle.collector.proofs.Walking.{Walking}
 use Rattle.collector.proofs.walk.Given as goal
 
-abbrev pub invariant-loop-at : goal.invariant-loop-at
-invariant-loop-at l = Walking l.p l.s l.t l.initial.img l.img l.list l.m l.at
+abbrev pub invariant-loop-j : goal.invariant-loop-j
+invariant-loop-j l = Walking l.p l.s l.t l.initial.img l.img l.list l.at
 
-abbrev pub decreases-loop-at : goal.decreases-loop-at
-decreases-loop-at l = most_slots - l.at
+abbrev pub decreases-loop-j : goal.decreases-loop-j
+decreases-loop-j l = most_slots - l.at

@@ -1,13 +1,8 @@
-use Prim.Native.Nat.{◌-◌, ◌≤◌}
 use mathlib.Core.Path.{◌≡◌}
 use mathlib.Core.List.{map}
 use lib.ListN.{length, take}
-use Rattle.kinds.specs.Names.{most_operations}
 use Rattle.heidrunok.specs.Face.{operation_of}
 use Rattle.heidrunok.proofs.heidrunok_commit.Given as goal
 
 abbrev pub invariant-loop-i : goal.invariant-loop-i
-invariant-loop-i l = (length l.ops ≡ most_operations) × (l.i ≤ l.most) × (take l.i l.ops ≡ take l.i (map operation_of l.words))
-
-abbrev pub decreases-loop-i : goal.decreases-loop-i
-decreases-loop-i l = l.most - l.i
+invariant-loop-i l = (length l.ops ≡ 33) × (take l.i l.ops ≡ take l.i (map operation_of l.words))

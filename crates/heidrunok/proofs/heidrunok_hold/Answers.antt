@@ -5,7 +5,7 @@ use mathlib.Core.List.{List}
 use Rattle.kinds.specs.declared.Handle.{Handle}
 use Rattle.kinds.specs.declared.Name.{Name}
 use Rattle.model.specs.Image.{Image}
-use Rattle.catalogue.specs.declared.Answer.{Answer}
+use Rattle.catalogue.specs.Answers.{Answer}
 use Rattle.catalogue.specs.Answers.{said}
 use Rattle.catalogue.specs.Call.{Outcome, hold_of}
 use Rattle.heidrunok.proofs.Faces.{seen_of}
@@ -17,4 +17,4 @@ of-name o img h m n log at e q = e ∙ ap (λ (k : Name). hold_of img h k log at
 
 pub returns : goal.returns
 returns c =
-    seen_of said _ _ _ _ _ (of-name _ _ _ _ _ _ _ c.hold.ensures c.name.ensures) c.tell.ensures
+    seen_of said _ _ _ _ _ (of-name _ _ _ _ _ _ _ c.hold.ensures c.named.ensures) c.tell.ensures

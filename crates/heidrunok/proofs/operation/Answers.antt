@@ -6,27 +6,27 @@ use Rattle.heidrunok.proofs.operation.Goals as goal
 pub returns-in-1 : goal.returns-in-1
 unfolding operation_of operation_by
 returns-in-1 c =
-    rw (c.in-1.is, c.name.ensures)
+    rw (c.in-1.is, c.named.ensures)
 
 pub returns-in-2 : goal.returns-in-2
 unfolding operation_of operation_by
 returns-in-2 c =
-    rw (c.in-2.is, c.name-in-2.ensures, c.name-in-2-2.ensures)
+    rw (c.in-2.is, c.named-in-2.ensures, c.named-in-2-2.ensures)
 
 pub returns-in-3 : goal.returns-in-3
 unfolding operation_of operation_by
 returns-in-3 c =
-    rw (c.in-3.is, c.name-in-3.ensures)
+    rw (c.in-3.is, c.named-in-3.ensures)
 
 pub returns-in-4 : goal.returns-in-4
 unfolding operation_of operation_by
 returns-in-4 c =
-    rw (c.in-4.is, c.name-in-4.ensures)
+    rw (c.in-4.is, c.named-in-4.ensures)
 
 pub returns-in-5 : goal.returns-in-5
 unfolding operation_of operation_by
 returns-in-5 c =
-    rw (c.in-5.is, c.name-in-5.ensures)
+    rw (c.in-5.is, c.named-in-5.ensures)
 
 pub returns-in-6 : goal.returns-in-6
 unfolding operation_of operation_by

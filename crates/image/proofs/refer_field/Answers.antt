@@ -4,11 +4,13 @@ use Rattle.model.specs.Image.{field, Has}
 use Rattle.image.proofs.Within.{has_word}
 use Rattle.image.proofs.Counts.{loses, gains, referred}
 use Rattle.image.proofs.refer_field.Goals as goal
+use Rattle.image.proofs.refer_field.Goals.{Start}
+
+had : (c : Start) → Has c.args.img.now (field c.args.j c.args.k)
+had c = has_word _ _ _ c.requires.within (field c.args.j c.args.k) (c.requires.j_bound.0, c.requires.j_bound.1)
 
 pub field_at-old-requires : goal.field_at-old-requires
-field_at-old-requires c =
-    let had : Has c.args.img.now (field c.args.j c.args.k) = has_word _ _ _ c.requires.within (field c.args.j c.args.k) (c.requires.j_bound.0, c.requires.j_bound.1) in
-    had
+field_at-old-requires c = had (goal.at.field_at-old-requires c).Start
 
 pub lose-requires : goal.lose-requires
 lose-requires c =
@@ -20,9 +22,7 @@ gain-requires c =
 
 pub put_field-requires : goal.put_field-requires
 unfolding Has
-put_field-requires c =
-    let had : Has c.args.img.now (field c.args.j c.args.k) = has_word _ _ _ c.requires.within (field c.args.j c.args.k) (c.requires.j_bound.0, c.requires.j_bound.1) in
-    omega (arith, had, c.gain.auto.img, c.lose.auto.img)
+put_field-requires c = omega (arith, had (goal.at.put_field-requires c).Start, c.gain.auto.img, c.lose.auto.img)
 
 pub returns : goal.returns
 returns c =

@@ -1,22 +1,28 @@
 -- `input::read_all` meets its contract. Assumes nothing.
-use mathlib.Core.Path.{refl, ◌∙◌}
-use Rattle.input.proofs.Turns.{first_filled, turn_filled, turn_less}
+use Prim.Native.Nat.{ℕ, ◌+◌, ◌-◌, ◌≤◌}
+use native.Mathlib.Omega.{arith}
+use mathlib.Core.Path.{◌≡◌, ap, ◌∙◌}
+use mathlib.Core.List.{List, ◌++◌}
+use lib.ListN.{take, drop}
+use Rattle.std.specs.Prelude.{Option}
+use Rattle.std.specs.Io.KnownBytes.{Consumes}
+use Rattle.std.proofs.KnownBytes.{Consumes-trans}
+use Rattle.std.proofs.Math.Seq.{take-add}
 use Rattle.input.proofs.read_all.Goals as goal
 
-pub loop-got-init : goal.loop-got-init
-loop-got-init g c = (refl, first_filled c.args.buf.now)
+-- one read more behind the first `done` bytes
+taken_more : (a b c : Option (List ℕ)) (done n : ℕ) (was now : List ℕ) → done ≤ n → take done now ≡ take done was → Consumes a b (take done was)
+    → Consumes b c (take (n - done) (drop done now)) → Consumes a c (take n now)
+taken_more a b c done n was now h kept before read =
+    let m : n ≡ done + (n - done) = omega arith in
+    let e : take n now ≡ take done was ++ take (n - done) (drop done now) =
+    ap (λ (k : ℕ). take k now) m ∙ take-add done (n - done) now ∙ ap (λ (l : List ℕ). l ++ take (n - done) (drop done now)) kept in
+    rw e (Consumes-trans a b c _ _ before read)
 
-pub returns-in_default : goal.returns-in_default
-returns-in_default g c = rw c.outcome.ensures c.loop-got.invariant.1
-
-pub loop-got-smaller : goal.loop-got-smaller
-loop-got-smaller g c =
-    let t = c.loop-got in
-    let r = c.read_more-got in
-    turn_less t.got c.in-More.done c.in-More.is t.buf r.new.buf r.auto.buf r.result r.ensures
-
-pub loop-got-preserved : goal.loop-got-preserved
-loop-got-preserved g c =
-    let t = c.loop-got in
-    let r = c.read_more-got in
-    (r.auto.buf ∙ t.invariant.0, turn_filled t.got c.in-More.done c.in-More.is t.buf r.new.buf r.auto.buf r.result r.ensures t.invariant.1)
+pub loop-n-preserved : goal.loop-n-preserved
+loop-n-preserved g c =
+    let t = c.loop-n in
+    let r = c.read_more in
+    let s = rw c.in-Some.is at c.in_ok-n.ensures.stands in
+    let k = rw c.in-Some.is at c.in_ok-n.ensures.known in
+    (r.auto.buf ∙ t.invariant.0, s.1, taken_more _ _ _ _ _ _ _ (omega arith) r.ensures.kept t.invariant.2 k)

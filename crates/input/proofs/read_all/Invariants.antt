@@ -1,12 +1,14 @@
--- The bytes counted so far stand in the buffer, and each turn leaves less room or is the last.
-use lib.ListN.{length}
+-- The bytes counted so far stand in the buffer, and are what was taken of those to come. Each turn leaves less room.
+use Prim.Native.Nat.{◌-◌, ◌≤◌}
+use lib.ListN.{length, take}
 use mathlib.Core.Path.{◌≡◌}
-use Rattle.input.specs.Input.{outcome, Filled}
-use Rattle.input.proofs.Turns.{left}
+use Rattle.std.specs.Io.KnownBytes.{Consumes}
 use Rattle.input.proofs.read_all.Given as goal
 
-abbrev pub invariant-loop-got : goal.invariant-loop-got
-invariant-loop-got g l = (length l.buf ≡ length l.initial.buf) × Filled (outcome l.got) l.buf
+abbrev pub invariant-loop-n : goal.invariant-loop-n
+invariant-loop-n g l =
+    (length l.buf ≡ length l.initial.buf) × (l.done ≤ length l.buf)
+    × Consumes (g.R.Read.remaining l.initial.reader) (g.R.Read.remaining l.reader) (take l.done l.buf)
 
-abbrev pub decreases-loop-got : goal.decreases-loop-got
-decreases-loop-got g l = left (length l.buf) l.got
+abbrev pub decreases-loop-n : goal.decreases-loop-n
+decreases-loop-n g l = length l.buf - l.done

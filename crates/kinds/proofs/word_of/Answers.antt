@@ -1,10 +1,10 @@
 use Rattle.kinds.specs.Names.{word_of}
 use Rattle.kinds.proofs.word_of.Goals as goal
 
-pub returns-in-Nothing : goal.returns-in-Nothing
+pub returns-in-None : goal.returns-in-None
 unfolding word_of
-returns-in-Nothing c = simp c.in-Nothing.is
+returns-in-None c = simp c.in-None.is
 
-pub returns-in-Object : goal.returns-in-Object
+pub returns-in-Some : goal.returns-in-Some
 unfolding word_of
-returns-in-Object c = simp c.in-Object.is
+returns-in-Some c = simp c.in-Some.is

@@ -4,14 +4,11 @@ use Rattle.model.specs.Image.{Image}
 use Rattle.model.specs.Questions.{Bits}
 use Rattle.loops.specs.Loop.{each}
 use mathlib.Core.Path.{◌≡◌}
-use Prim.Native.Nat.{ℕ, ◌+◌, ◌*◌, ◌≤◌, ◌-◌}
+use Prim.Native.Nat.{ℕ, ◌+◌, ◌*◌}
 use Rattle.locals.proofs.free.Given as goal
 
 abbrev pub settled : ℕ → ℕ → Bits → Image → ℕ → Image
 settled s t marks x i = settle_of s marks x (t * s + i)
 
 abbrev pub invariant-loop-k : goal.invariant-loop-k
-invariant-loop-k l = (l.k ≤ l.s) × (l.img ≡ each l.k (settled l.s l.t l.marks) l.initial.img) × Within l.p l.s l.img
-
-abbrev pub decreases-loop-k : goal.decreases-loop-k
-decreases-loop-k l = l.s - l.k
+invariant-loop-k l = (l.img ≡ each l.k (settled l.s l.t l.marks) l.initial.img) × Within l.p l.s l.img

@@ -5,5 +5,4 @@ use Rattle.locals.proofs.local.Goals as goal
 
 pub returns : goal.returns
 returns c =
-    let k = c.keep.ensures in
-    (c.free.ensures ∙ freed _ _ _ _ _ k, c.lost-n.ensures ∙ number _ _ _ _ _ k)
+    let k = c.keep.ensures in (c.free.ensures ∙ freed _ _ _ _ _ k, c.lost-freed.ensures ∙ number _ _ _ _ _ k)

@@ -1,34 +1,20 @@
--- `locals::lost` meets its contract. Assumes nothing. After k turns c is the number of the first k slots that are lost, so at most k.
-use Rattle.loops.proofs.Turns.{tally_none, tally_more, tally_done}
-use Rattle.loops.proofs.Tests.{bit_le}
+-- `locals::lost` meets its contract. Assumes nothing.
+use Rattle.std.proofs.lemmas.Iterator.{YieldsList-from_range}
+use Rattle.std.proofs.lemmas.Iterator.Consumers.{YieldsList-from_filter, count_from_yields_List}
+use Rattle.std.proofs.lemmas.List.Sums.{length-filter}
+use Rattle.std.specs.List.{range_with_len}
+use Prim.Native.Nat.{ℕ}
 use Rattle.locals.specs.Slots.{lost_at}
-use mathlib.Core.Path.{ap, ◌∙◌}
-use Prim.Native.Nat.{ℕ, ◌+◌, ◌≤◌}
-use native.Mathlib.Omega.{arith}
+use Rattle.locals.proofs.Freeing.{count_range}
 use borrow.Author.Rules.{rules}
+use borrow.Author.Tests.{tests}
+use mathlib.Core.Path.{◌∙◌}
+use native.Mathlib.Omega.{arith}
 use Rattle.locals.proofs.lost.Goals as goal
-
-pub loop-k-init : goal.loop-k-init
-loop-k-init c =
-    (search rules, tally_none _, omega arith)
-
-pub lost_at-one-requires : goal.lost_at-one-requires
-lost_at-one-requires c =
-    record { within = c.requires.within; part = c.requires.t_lt_p; slot = c.loop-k-test.true }
-
-pub overflow_add-c : goal.overflow_add-c
-overflow_add-c c =
-    let one : c.lost_at-one.result ≤ 1 = let a = c.args in omega (arith, c.lost_at-one.ensures, bit_le (lost_at a.s a.t a.img.now a.marks.now c.loop-k.k)) in
-    omega (arith, one, c.loop-k.invariant.2)
-
-pub loop-k-preserved : goal.loop-k-preserved
-loop-k-preserved c =
-    let one : c.lost_at-one.result ≤ 1 = let a = c.args in omega (arith, c.lost_at-one.ensures, bit_le (lost_at a.s a.t a.img.now a.marks.now c.loop-k.k)) in (
-      omega (arith, c.loop-k-test.true),
-      ap (λ (v : ℕ). c.loop-k.c + v) c.lost_at-one.ensures ∙ tally_more _ _ _ c.loop-k.invariant.1,
-      omega (arith, one, c.loop-k.invariant.2),
-    )
 
 pub returns : goal.returns
 returns c =
-    tally_done _ _ _ _ c.loop-k.invariant.0 c.loop-k-test.false c.loop-k.invariant.1
+    let a = c.args in
+    let test = lost_at a.s a.t a.img.now a.marks.now in
+    count_from_yields_List c.filter.result _ c.count.ensures.ran (YieldsList-from_filter _ test (YieldsList-from_range 0 _ a.s c.filter.ensures.source (omega arith)) c.filter.ensures.closure (λ x b q k. search (rules, tests)))
+    ∙ (length-filter {X = ℕ} test (range_with_len 0 a.s) ∙ count_range test a.s)

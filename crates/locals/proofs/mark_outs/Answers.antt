@@ -9,31 +9,12 @@ use Prim.Native.Nat.{ℕ}
 use native.Mathlib.Omega.{arith}
 use Rattle.locals.proofs.mark_outs.Goals as goal
 
-pub overflow_mul-n : goal.overflow_mul-n
-overflow_mul-n c =
-    omega (arith, c.requires.within.limits.slots_most)
-
 pub loop-f-init : goal.loop-f-init
-loop-f-init c =
-    (omega arith, c.requires.t_lt_p.1 ∙ each_none _ _, rw c.requires.t_lt_p.1 (length-replicate {A = ℕ} most_places 0))
-
-pub mark_out-requires : goal.mark_out-requires
-mark_out-requires c =
-    record { place = record { within = c.requires.within; part = c.requires.t_lt_p.0; slot = omega (arith, c.loop-f-test.true) }; wide = c.loop-f.invariant.2 }
-
-pub overflow_add-f : goal.overflow_add-f
-overflow_add-f c =
-    omega (arith, c.loop-f-test.true, c.requires.within.limits.slots_most)
-
-pub loop-f-smaller : goal.loop-f-smaller
-loop-f-smaller c =
-    omega (arith, c.loop-f-test.true)
+loop-f-init c = let e = c.requires.t_lt_p.1 in (e ∙ each_none _ _, rw e (length-replicate {A = ℕ} most_places 0))
 
 pub loop-f-preserved : goal.loop-f-preserved
-loop-f-preserved c =
-    (omega (arith, c.loop-f-test.true), c.mark_out.ensures.0 ∙ each_more _ _ _ _ c.loop-f.invariant.1, c.mark_out.ensures.1)
+loop-f-preserved c = let e = c.mark_out.ensures in (e.0 ∙ each_more _ _ _ _ c.loop-f.invariant.0, e.1)
 
 pub returns : goal.returns
 unfolding out_bits collect
-returns c =
-    each_done _ _ _ _ _ c.loop-f.invariant.0 c.loop-f-test.false c.loop-f.invariant.1
+returns c = each_done _ _ _ _ _ (omega arith) (omega arith) c.loop-f.invariant.0

@@ -3,11 +3,7 @@ use Rattle.model.specs.Outlist.{out_one}
 use Rattle.loops.specs.Loop.{each}
 use lib.ListN.{length, replicate}
 use mathlib.Core.Path.{◌≡◌}
-use Prim.Native.Nat.{◌*◌, ◌≤◌, ◌-◌}
 use Rattle.locals.proofs.mark_outs.Given as goal
 
 abbrev pub invariant-loop-f : goal.invariant-loop-f
-invariant-loop-f l = (l.f ≤ 4 * l.s) × (l.bits ≡ each l.f (out_one l.s l.t l.img) (replicate most_places 0)) × (length l.bits ≡ most_places)
-
-abbrev pub decreases-loop-f : goal.decreases-loop-f
-decreases-loop-f l = 4 * l.s - l.f
+invariant-loop-f l = (l.bits ≡ each l.f (out_one l.s l.t l.img) (replicate most_places 0)) × (length l.bits ≡ most_places)

@@ -1,53 +1,40 @@
 -- `reasons::explain` meets its contract. Assumes nothing.
-use Rattle.reasons.proofs.Explaining.{climbs, placed, answer_none, way, few_references, answer_narrow, answer_held}
-use Rattle.reasons.proofs.Climbing.{anchor_most}
-use Rattle.reasons.proofs.Queueing.{queue_first}
-use Rattle.holding.specs.Finding.{start_of}
-use Rattle.image.proofs.Within.{places}
+use Rattle.reasons.proofs.Explaining.{placed, anchored, answer_none, way, few_references, answer_narrow, answer_held}
+use Rattle.std.proofs.Common.{rules}
+use Rattle.model.specs.Image.{anchors}
+use Prim.Native.Nat.{◌<◌}
+use Rattle.holding.specs.Finding.{anchor_to, start_of}
+use borrow.Author.Tests.{ltb-true, ltb-false}
 use native.Mathlib.Omega.{arith}
-use mathlib.Core.Path.{◌∙◌, ap}
+use mathlib.Core.Path.{◌≡◌, sym, ◌∙◌, ap}
 use Rattle.reasons.proofs.explain.Goals as goal
 
-pub spread-n-requires : goal.spread-n-requires
-spread-n-requires c =
-    record { within = c.requires.within; t_bound = c.requires.t_bound; queue = queue_first _ _ (places c.requires.within) c.zeros-rows.ensures c.zeros-list.ensures }
-
-pub offset_bounds-rows-t : goal.offset_bounds-rows-t
-offset_bounds-rows-t c =
-    omega (arith, c.requires.t_bound, places c.requires.within)
-
-pub bounds-rows-t : goal.bounds-rows-t
-bounds-rows-t c =
-    omega (arith, c.requires.t_bound, places c.requires.within)
-
-pub returns-then-rows-t-eq0 : goal.returns-then-rows-t-eq0
-returns-then-rows-t-eq0 c =
-    rw c.refuse.ensures (answer_none c.requires.within c.spread-n.ensures _ c.if-rows-t-eq0.true)
-
-pub depth-k-requires : goal.depth-k-requires
-depth-k-requires c =
-    record { climbs = climbs c.requires.within c.spread-n.ensures; j_lt_most_places = omega (arith, c.requires.t_bound, places c.requires.within) }
+pub returns-then-not-is_met : goal.returns-then-not-is_met
+returns-then-not-is_met c = rw c.refuse.ensures (answer_none c.requires.within c.spread.ensures _ (omega (arith, ltb-false _ _ (sym c.if-not-is_met.ensures))))
 
 pub overflow_mul-k : goal.overflow_mul-k
 overflow_mul-k c =
-    omega (arith, few_references c.requires.within c.spread-n.ensures c.requires.t_bound c.if-rows-t-eq0.false _ c.depth-k.ensures)
+    omega (arith, few_references c.requires.within c.spread.ensures c.requires.t_bound (ltb-true _ _ (sym c.if-not-is_met.ensures)) _ c.depth-k.ensures)
 
 pub returns-then-words-k : goal.returns-then-words-k
 returns-then-words-k c =
-    rw c.refuse-then-words-k.ensures (answer_narrow c.requires.within c.spread-n.ensures c.requires.t_bound c.if-rows-t-eq0.false _ c.depth-k.ensures _ c.if-words-k.true)
+    rw c.refuse-then-words-k.ensures
+    (answer_narrow c.requires.within c.spread.ensures c.requires.t_bound (ltb-true _ _ (sym c.if-not-is_met.ensures)) _ c.depth-k.ensures _ c.if-words-k.true)
 
-pub fill-h-requires : goal.fill-h-requires
-fill-h-requires c =
-    record { placed = placed c.requires.within c.spread-n.ensures; way = way c.requires.within c.spread-n.ensures c.requires.t_bound c.if-rows-t-eq0.false _ c.depth-k.ensures; k_in_bounds = c.if-words-k.false }
+pub fill-h-requires-clause-placed : goal.fill-h-requires-clause-placed
+fill-h-requires-clause-placed c = placed c.requires.within c.spread.ensures
 
-pub anchor_to-requires : goal.anchor_to-requires
-anchor_to-requires c =
-    c.requires.within
+pub fill-h-requires-clause-way : goal.fill-h-requires-clause-way
+fill-h-requires-clause-way c =
+    way c.requires.within c.spread.ensures c.requires.t_bound (ltb-true _ _ (sym c.if-not-is_met.ensures)) _ c.depth-k.ensures
 
-pub start_of-requires : goal.start_of-requires
-start_of-requires c =
-    rw c.anchor_to.ensures (anchor_most _ _ _)
+pub unwrap-a-requires : goal.unwrap-a-requires
+unwrap-a-requires c =
+    let found : anchor_to c.args.s c.args.img.now c.fill-h.result < anchors = anchored c.requires.within c.spread.ensures c.fill-h.ensures in
+    search rules
 
 pub returns : goal.returns
 returns c =
-    answer_held c.requires.within c.spread-n.ensures c.requires.t_bound c.if-rows-t-eq0.false _ c.depth-k.ensures _ _ _ _ c.if-words-k.false c.fill-h.ensures (c.start_of.ensures ∙ ap start_of c.anchor_to.ensures)
+    let found : c.unwrap-a.result ≡ anchor_to c.args.s c.args.img.now c.fill-h.result = search rules in
+    answer_held c.requires.within c.spread.ensures c.requires.t_bound (ltb-true _ _ (sym c.if-not-is_met.ensures)) _ c.depth-k.ensures _ _ _ _ c.if-words-k.false c.fill-h.ensures
+    (c.start_of.ensures ∙ ap start_of found)

@@ -1,32 +1,19 @@
 -- `reasons::field_to` meets its contract. Assumes nothing.
-use Rattle.reasons.proofs.Climbing.{to_word}
-use Rattle.holding.specs.Finding.{is_to, field_to}
+use Rattle.std.proofs.Common.{rules, tests}
+use Rattle.std.proofs.lemmas.Iterator.{serves_from_Range}
 use Rattle.image.proofs.Within.{has_word}
-use Rattle.model.specs.Image.{field}
-use Rattle.loops.proofs.Walks.{first_here, first_on, first_end}
-use mathlib.Core.Path.{◌≡◌, refl, sym, ◌∙◌}
-use borrow.Author.Rules.{rules}
+use Rattle.model.specs.Image.{field, Has}
+use Rattle.loops.proofs.Ranges.{find_range}
+use Rattle.holding.specs.Finding.{is_to, field_to}
+use Prim.Native.Nat.{ℕ, ◌<◌}
+use mathlib.Core.Path.{refl}
 use Rattle.reasons.proofs.field_to.Goals as goal
 
-pub loop-k-init : goal.loop-k-init
-unfolding field_to
-loop-k-init c =
-    (search rules, refl)
-
-pub field_at-requires : goal.field_at-requires
-field_at-requires c =
-    has_word _ _ _ c.requires.within (field c.args.h c.loop-k.k) (c.requires.h_bound, c.loop-k-test.true)
-
-pub returns-then-names : goal.returns-then-names
-returns-then-names c =
-    let said : let a = c.args in is_to a.s a.img.now (field a.h c.loop-k.k) a.j ≡ c.names.result = to_word _ _ _ _ c.field_at.ensures c.names.ensures in
-    sym (c.loop-k.invariant.1 ∙ first_here _ _ _ c.loop-k-test.true (said ∙ c.if-names.true))
-
-pub loop-k-preserved : goal.loop-k-preserved
-loop-k-preserved c =
-    let said : let a = c.args in is_to a.s a.img.now (field a.h c.loop-k.k) a.j ≡ c.names.result = to_word _ _ _ _ c.field_at.ensures c.names.ensures in
-    (search rules, c.loop-k.invariant.1 ∙ first_on _ _ _ c.loop-k-test.true (said ∙ c.if-names.false))
+pub find-requires-clause-callable : goal.find-requires-clause-callable
+find-requires-clause-callable c =
+    let h : (i : ℕ) → i < 4 → Has c.args.img.now (field c.args.h i) = λ i l. has_word _ _ _ c.requires.within (field c.args.h i) (c.requires.h_bound, l) in
+    serves_from_Range (λ x q k. search rules) (λ x a b. search (rules, h))
 
 pub returns : goal.returns
-returns c =
-    sym (c.loop-k.invariant.1 ∙ first_end _ _ _ c.loop-k-test.false)
+unfolding field_to is_to
+returns c = let a = c.args in find_range 4 (λ i. is_to a.s a.img.now (field a.h i) a.j) _ _ _ c.find.ensures.ran refl (λ x b q k. search (rules, tests))

@@ -1,8 +1,9 @@
 use Rattle.reasons.proofs.Climbing.{Filling}
+use lib.ListN.{get_or}
 use Rattle.reasons.proofs.fill.Given as goal
 
-abbrev pub invariant-loop-i : goal.invariant-loop-i
-invariant-loop-i l = Filling l.p l.s l.img l.rows l.list l.t l.initial.words l.words l.j l.i
+abbrev pub invariant-loop-h : goal.invariant-loop-h
+invariant-loop-h l = Filling l.p l.s l.img l.queue l.t l.initial.words l.words l.j l.i
 
-abbrev pub decreases-loop-i : goal.decreases-loop-i
-decreases-loop-i l = l.i
+abbrev pub decreases-loop-h : goal.decreases-loop-h
+decreases-loop-h l = get_or l.queue.rows l.j 0

@@ -11,7 +11,7 @@ use Rattle.reporting.proofs.put_recovered.Goals as goal
 pub overflow_cast-k : goal.overflow_cast-k
 overflow_cast-k c =
     let log-bytes : Bytes c.args.log.now = bytes_of c.args.log.now (λ i. omega (arith, c.shared_slice_known-1.given i)) in
-    omega (arith, kept_small _ _ _ _ c.recover.ensures.0 (log-bytes) c.in-Kept.is)
+    omega (arith, kept_small _ _ _ _ c.recover.ensures.0 (log-bytes) c.in-Ok.is)
 
 pub put_kept-requires : goal.put_kept-requires
 unfolding length_of
@@ -19,23 +19,23 @@ put_kept-requires c =
     let log-bytes : Bytes c.args.log.now = bytes_of c.args.log.now (λ i. omega (arith, c.shared_slice_known-1.given i)) in (
       omega arith,
       omega arith,
-      sized_length _ _ _ (c.recover.auto.img ∙ c.requires.p_le_most_partitions.2 (kept_some _ _ _ _ c.recover.ensures.0 (log-bytes) c.in-Kept.is)),
+      sized_length _ _ _ (c.recover.auto.img ∙ c.requires.p_le_most_partitions.2 (kept_some _ _ _ _ c.recover.ensures.0 (log-bytes) c.in-Ok.is)),
       omega arith,
     )
 
 pub overflow_cast-r : goal.overflow_cast-r
 overflow_cast-r c =
     let log-bytes : Bytes c.args.log.now = bytes_of c.args.log.now (λ i. omega (arith, c.shared_slice_known-1.given i)) in
-    omega (arith, line_small _ _ _ _ c.recover.ensures.0 (log-bytes) c.in-Refused.is)
+    omega (arith, line_small _ _ _ _ c.recover.ensures.0 (log-bytes) c.in-Err.is)
 
-pub overflow_cast-b : goal.overflow_cast-b
-overflow_cast-b c =
-    omega (arith, byte_small _ _ _ _ c.recover.ensures.0 _ _ c.in-Refused.is c.recover.ensures.1)
+pub overflow_cast-f : goal.overflow_cast-f
+overflow_cast-f c =
+    omega (arith, byte_small _ _ _ _ c.recover.ensures.0 _ c.in-Err.is c.recover.ensures.1)
 
-pub returns-in-Kept : goal.returns-in-Kept
-returns-in-Kept c =
-    rw (← kept_shown _ _ _ _ c.recover.ensures.0 _ _ _ c.in-Kept.is) c.put_kept.ensures
+pub returns-in-Ok : goal.returns-in-Ok
+returns-in-Ok c =
+    rw (← kept_shown _ _ _ _ c.recover.ensures.0 _ _ _ c.in-Ok.is) c.put_kept.ensures
 
-pub returns-in-Refused : goal.returns-in-Refused
-returns-in-Refused c =
-    rw (← refused_shown _ _ _ _ c.recover.ensures.0 _ _ c.in-Refused.is c.recover.ensures.1 _ _) c.put_refused.ensures
+pub returns-in-Err : goal.returns-in-Err
+returns-in-Err c =
+    rw (← refused_shown _ _ _ _ c.recover.ensures.0 _ c.in-Err.is c.recover.ensures.1 _ _) c.put_refused.ensures

@@ -4,11 +4,8 @@ use Rattle.model.specs.Sound.{ref_ok}
 use Rattle.soundness.specs.Checks.{Tallied}
 use mathlib.Core.Bool.{true}
 use mathlib.Core.Path.{◌≡◌}
-use Prim.Native.Nat.{◌+◌, ◌*◌, ◌≤◌, ◌-◌}
+use Prim.Native.Nat.{◌+◌, ◌*◌}
 use Rattle.soundness.proofs.fields.Given as goal
 
 abbrev pub invariant-loop-k : goal.invariant-loop-k
-invariant-loop-k l = (l.k ≤ 4) × (every l.k (λ i. ref_ok l.p l.s l.img (field l.j i)) ≡ true) × Tallied l.s l.img (4 * l.j + l.k) l.counts
-
-abbrev pub decreases-loop-k : goal.decreases-loop-k
-decreases-loop-k l = 4 - l.k
+invariant-loop-k l = record { tested : every l.k (λ i. ref_ok l.p l.s l.img (field l.j i)) ≡ true; tallied : Tallied l.s l.img (4 * l.j + l.k) l.counts }

@@ -1,36 +1,25 @@
 -- `soundness::open_ok` meets its contract. Assumes nothing.
-use Rattle.soundness.proofs.Tallying.{places}
-use Rattle.model.proofs.Soundness.{open_not, open_back}
-use Rattle.model.proofs.Keys.{has}
+use Rattle.soundness.proofs.Rows.{shaped_has}
+use Rattle.model.specs.Sound.{open_ok}
 use Rattle.model.specs.Image.{count, allowance}
-use mathlib.Core.Path.{sym}
 use native.Mathlib.Omega.{arith}
+use borrow.Author.Tests.{le-leb, lt-leb}
 use Rattle.soundness.proofs.open_ok.Goals as goal
 
 pub head_at-a-requires : goal.head_at-a-requires
 head_at-a-requires c =
-    has _ _ c.requires.long allowance (omega arith)
-
-pub overflow_mul-p : goal.overflow_mul-p
-overflow_mul-p c =
-    omega (arith, places c.requires)
-
-pub overflow_add-p : goal.overflow_add-p
-overflow_add-p c =
-    omega (arith, places c.requires)
-
-pub returns-then-p-s : goal.returns-then-p-s
-returns-then-p-s c =
-    sym (open_not _ _ _ (λ h. omega arith))
+    shaped_has c.requires allowance (omega arith)
 
 pub head_at-requires : goal.head_at-requires
 head_at-requires c =
-    has _ _ c.requires.long count (omega arith)
+    shaped_has c.requires count (omega arith)
 
-pub returns-then-a-head_at : goal.returns-then-a-head_at
-returns-then-a-head_at c =
-    sym (open_not _ _ _ (λ h. omega arith))
+pub returns-then-a-p : goal.returns-then-a-p
+unfolding open_ok
+returns-then-a-p c =
+    rw (← c.head_at-a.ensures, ← c.head_at.ensures, le-leb _ _ c.if-a-p.true)
 
-pub returns : goal.returns
-returns c =
-    sym (open_back _ _ _ (record { allowed = omega arith; counted = omega arith }))
+pub returns-else-a-p : goal.returns-else-a-p
+unfolding open_ok
+returns-else-a-p c =
+    rw (← c.head_at-a.ensures, lt-leb _ _ c.if-a-p.false)

@@ -17,6 +17,6 @@ pub overflow_add-result : goal.overflow_add-result
 overflow_add-result c =
     omega (arith, part_small _ c.args.q c.requires.0, c.requires.2, c.requires.4)
 
-pub returns : goal.returns
-returns c =
+pub returns-else-j-q : goal.returns-else-j-q
+returns-else-j-q c =
     next_part _ _ _ c.requires.0 c.if-j-q.false c.requires.3

@@ -1,22 +1,23 @@
 -- `soundness::slot` meets its contract. Assumes nothing.
-use Rattle.soundness.proofs.Tallying.{fails, slot_free, slot_unknown, slot_used, tallied_free}
-use Rattle.model.specs.Image.{state}
-use Rattle.model.proofs.Keys.{has}
 use mathlib.Core.Path.{sym, ◌∙◌}
+use native.Mathlib.Omega.{arith}
+use Rattle.model.specs.Image.{state}
+use Rattle.soundness.proofs.Rows.{shaped_has}
+use Rattle.soundness.proofs.Tallying.{fails, slot_free, slot_unknown, slot_used, tallied_free}
 use Rattle.soundness.proofs.slot.Goals as goal
 
-pub state_at-x-requires : goal.state_at-x-requires
-state_at-x-requires c =
-    has _ _ c.requires.shaped.long (state c.args.j) c.requires.j_bound.0
+pub state_at-requires : goal.state_at-requires
+state_at-requires c =
+    shaped_has c.requires.shaped (state c.args.j) c.requires.j_bound.0
 
-pub returns-then-x-eq0 : goal.returns-then-x-eq0
-returns-then-x-eq0 c =
-    (c.free_ok.ensures ∙ sym (slot_free _ _ _ _ _ c.state_at-x.ensures c.if-x-eq0.true), λ e. tallied_free _ (sym c.free_ok.ensures ∙ e) c.requires.tallied)
+pub returns-in-0 : goal.returns-in-0
+returns-in-0 c =
+    (c.free_ok.ensures ∙ sym (slot_free _ _ _ _ _ c.state_at.ensures c.in-0.is), λ e. tallied_free _ (sym c.free_ok.ensures ∙ e) c.requires.tallied)
 
-pub returns-then-x-gt2 : goal.returns-then-x-gt2
-returns-then-x-gt2 c =
-    fails (slot_unknown _ _ _ _ _ c.state_at-x.ensures c.if-x-gt2.true)
+pub returns-in-1 : goal.returns-in-1
+returns-in-1 c =
+    (c.fields.ensures.0 ∙ sym (slot_used _ _ _ _ c.state_at.result c.state_at.ensures (λ z. omega arith) (omega arith)), c.fields.ensures.1)
 
-pub returns : goal.returns
-returns c =
-    (c.fields.ensures.0 ∙ sym (slot_used _ _ _ _ _ c.state_at-x.ensures c.if-x-eq0.false c.if-x-gt2.false), c.fields.ensures.1)
+pub returns-in_default : goal.returns-in_default
+returns-in_default c =
+    fails (slot_unknown _ _ _ _ c.state_at.result c.state_at.ensures (omega arith))

@@ -22,13 +22,13 @@ head_at-s-requires c =
 
 pub sound_at-requires : goal.sound_at-requires
 sound_at-requires c =
-    shaped_image _ _ _ (sym c.judge_format-v.ensures ∙ c.in-Accepted.is)
+    shaped_image _ _ _ (sym c.judge_format-v.ensures ∙ c.in-Ok.is)
 
-pub returns-in-Accepted : goal.returns-in-Accepted
+pub returns-in-Ok : goal.returns-in-Ok
 unfolding is_sound
-returns-in-Accepted c =
+returns-in-Ok c =
     rw (← c.head_at-p.ensures, ← c.head_at-s.ensures) c.sound_at.ensures
 
-pub returns-in-Refused : goal.returns-in-Refused
-returns-in-Refused c =
-    sym (sound_not _ (format_unsound _ _ _ _ _ c.head_at-p.ensures c.head_at-s.ensures c.judge_format-v.ensures c.in-Refused.is))
+pub returns-in-Err : goal.returns-in-Err
+returns-in-Err c =
+    sym (sound_not _ (format_unsound _ _ _ _ _ c.head_at-p.ensures c.head_at-s.ensures c.judge_format-v.ensures c.in-Err.is))

@@ -1,14 +1,18 @@
 -- `soundness::unmarked` meets its contract. Assumes nothing.
+use Rattle.std.proofs.Common.{rules, tests}
+use Rattle.std.proofs.lemmas.Iterator.{serves_from_Range}
+use Rattle.loops.proofs.Ranges.{all_range}
+use Rattle.soundness.proofs.Rows.{shaped_has}
+use mathlib.Core.Path.{refl}
+use Prim.Native.Nat.{◌*◌}
 use Rattle.model.specs.Sound.{unmarked_at}
-use borrow.Author.Tests.{eq-eqb, ne_eqb}
 use Rattle.soundness.proofs.unmarked.Goals as goal
 
-pub returns-then-state_at-eq2 : goal.returns-then-state_at-eq2
-unfolding unmarked_at
-returns-then-state_at-eq2 c =
-    rw (← c.state_at.ensures, eq-eqb _ _ c.if-state_at-eq2.true)
+pub all-requires-clause-callable : goal.all-requires-clause-callable
+all-requires-clause-callable c =
+    serves_from_Range (λ x q k. search rules) (λ x a b. search (rules, shaped_has))
 
 pub returns : goal.returns
 unfolding unmarked_at
 returns c =
-    rw (← c.state_at.ensures, ne_eqb _ _ c.if-state_at-eq2.false)
+    all_range (c.args.p * c.args.s) (unmarked_at c.args.img.now) _ _ _ c.all.ensures.ran refl (λ x b q k. search (rules, tests))

@@ -14,4 +14,4 @@ slice_bounds-clear-end-2 c =
 
 pub returns : goal.returns
 returns c =
-    lend_done _ _ _ _ _ c.if-img-n.false _ c.clear.ensures
+    rw c.says-2.ensures (lend_done _ _ _ _ _ c.if-img-n.false _ c.clear.ensures)

@@ -2,6 +2,9 @@
 use mathlib.Core.Path.{sym, ◌∙◌}
 use Rattle.desk.proofs.Putting.{put_from_lem}
 use Rattle.desk.specs.Desk.{put_from}
+use lib.ListN.{length-replicate}
+use native.Mathlib.Omega.{arith}
+use Prim.Native.Nat.{ℕ}
 use Rattle.desk.proofs.lend.put_bytes.Goals as goal
 
 pub returns-in-Nothing : goal.returns-in-Nothing
@@ -16,4 +19,4 @@ returns-in-Bad c =
 
 pub returns-in-Number : goal.returns-in-Number
 returns-in-Number c =
-    put_from_lem _ _ _ _ _ (sym c.next_number.ensures ∙ c.in-Number.is) _ c.room-list.ensures _ c.listed-n.ensures.list_after _ c.put_at.ensures
+    put_from_lem _ _ _ _ _ (sym c.next_number.ensures ∙ c.in-Number.is) _ (omega (arith, length-replicate {A = ℕ} 65536 0)) _ c.listed-n.ensures.list_after _ c.put_at.ensures

@@ -13,7 +13,7 @@ use Rattle.reporting.proofs.rows.put_objects.Goals as goal
 pub loop-j-init : goal.loop-j-init
 unfolding objects
 loop-j-init c =
-    (search rules, put_none _ _)
+    put_none _ _
 
 pub put_place-next-requires : goal.put_place-next-requires
 put_place-next-requires c =
@@ -22,18 +22,18 @@ put_place-next-requires c =
       omega arith,
       has _ _ c.requires.2 (state _) less,
       has _ _ c.requires.2 (payload _) less,
-      room_more _ _ _ c.loop-j.invariant.1 c.args.n less c.requires.0 c.requires.1 c.requires.3,
+      room_more _ _ _ c.loop-j.invariant c.args.n less c.requires.0 c.requires.1 c.requires.3,
     )
 
 pub loop-j-preserved : goal.loop-j-preserved
 loop-j-preserved c =
-    (search rules, put_more _ _ _ c.loop-j.invariant.1 c.put_place-next.ensures)
+    put_more _ _ _ c.loop-j.invariant c.put_place-next.ensures
 
 pub shape_of-out : goal.shape_of-out
 shape_of-out c =
-    put_length c.loop-j.invariant.1
+    put_length c.loop-j.invariant
 
 pub returns : goal.returns
 returns c =
     let e : c.loop-j.j ≡ c.args.n = search rules in
-    rw (← e) c.loop-j.invariant.1
+    rw (← e) c.loop-j.invariant

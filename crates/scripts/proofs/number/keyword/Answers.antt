@@ -1,45 +1,39 @@
--- `scripts::number::keyword` meets its contract. Assumes nothing.
--- The loop's invariant: what is left of the word, after the letters so far, is coded as the whole word is (coded-on, coded-stop).
-use Rattle.scripts.specs.Numbers.{is_letter, keyword_of}
-use lib.ListN.{get_or}
-use Rattle.loops.proofs.Tests.{both_false}
-use borrow.Author.Tests.{lt-ltb, le-ltb, le-leb, lt-leb}
+-- `scripts::number::keyword` meets its contract: what is left of the word, after the letters so far, is coded as the whole word is. Assumes nothing.
 use Prim.Native.Nat.{◌^◌}
 use native.Mathlib.Omega.{arith}
-use mathlib.Core.Path.{sym, ◌∙◌}
-use Rattle.scripts.proofs.Keywords.{coded_stop, coded_on, coded_end}
-use borrow.Author.Rules.{rules}
+use mathlib.Core.Path.{◌≡◌, sym, ◌∙◌}
+use mathlib.Core.Bool.{true, false}
+use lib.ListN.{get_or}
+use borrow.Author.Tests.{lt-ltb, le-ltb}
+use Rattle.loops.proofs.Tests.{both_false}
+use Rattle.scripts.specs.Numbers.{is_letter, keyword_of}
+use Rattle.scripts.proofs.Keywords.{letter_is, coded_stop, coded_on, coded_end}
 use Rattle.scripts.proofs.number.keyword.Goals as goal
 
-pub returns-then-b-lt97 : goal.returns-then-b-lt97
+pub returns-then-not-is_ascii_lowercase : goal.returns-then-not-is_ascii_lowercase
 unfolding keyword_of
-returns-then-b-lt97 c =
-    let l = c.loop-i in
+returns-then-not-is_ascii_lowercase c =
+    let l = c.loop-b in
     let w = c.args.word.now in
-    coded_stop l.k w l.i (omega arith) (rw (lt-leb 97 (get_or w l.i 0) c.if-b-lt97.true)) ∙ sym l.invariant
-
-pub returns-then-b-gt122 : goal.returns-then-b-gt122
-unfolding keyword_of
-returns-then-b-gt122 c =
-    let l = c.loop-i in
-    let w = c.args.word.now in
-    coded_stop l.k w l.i (omega arith) (rw (lt-leb (get_or w l.i 0) 122 c.if-b-gt122.true, both_false)) ∙ sym l.invariant
+    let other : is_letter (get_or w l.b-index 0) ≡ false = letter_is (get_or w l.b-index 0) ∙ sym c.is_ascii_lowercase.ensures.value ∙ c.if-not-is_ascii_lowercase.true in
+    coded_stop l.k w l.b-index (omega arith) (rw other) ∙ sym l.invariant
 
 pub returns-then-k-ge72057594037927936 : goal.returns-then-k-ge72057594037927936
 unfolding keyword_of
 returns-then-k-ge72057594037927936 c =
-    let l = c.loop-i in
+    let l = c.loop-b in
     let w = c.args.word.now in
-    coded_stop l.k w l.i (omega arith) (rw (le-ltb l.k (2 ^ 56) (omega (arith, c.if-k-ge72057594037927936.true))) (both_false (is_letter (get_or w l.i 0)))) ∙ sym l.invariant
+    coded_stop l.k w l.b-index (omega arith) (rw (le-ltb l.k (2 ^ 56) (omega (arith, c.if-k-ge72057594037927936.true))) (both_false (is_letter (get_or w l.b-index 0)))) ∙ sym l.invariant
 
-pub loop-i-preserved : goal.loop-i-preserved
-loop-i-preserved c =
-    let l = c.loop-i in
+pub loop-b-preserved : goal.loop-b-preserved
+loop-b-preserved c =
+    let l = c.loop-b in
     let w = c.args.word.now in
-    l.invariant ∙ coded_on l.k w l.i (omega arith) (rw (le-leb 97 (get_or w l.i 0) c.if-b-lt97.false, le-leb (get_or w l.i 0) 122 c.if-b-gt122.false, lt-ltb l.k (2 ^ 56) c.if-k-ge72057594037927936.false))
+    let letter : is_letter (get_or w l.b-index 0) ≡ true = letter_is (get_or w l.b-index 0) ∙ sym c.is_ascii_lowercase.ensures.value ∙ c.if-not-is_ascii_lowercase.false in
+    rw c.from.ensures (l.invariant ∙ coded_on l.k w l.b-index (omega arith) (rw (letter, lt-ltb l.k (2 ^ 56) c.if-k-ge72057594037927936.false)))
 
 pub returns : goal.returns
 unfolding keyword_of
 returns c =
-    let l = c.loop-i in
-    sym (l.invariant ∙ coded_end l.k c.args.word.now l.i (omega arith))
+    let l = c.loop-b in
+    sym (l.invariant ∙ coded_end l.k c.args.word.now l.b-index (omega arith))

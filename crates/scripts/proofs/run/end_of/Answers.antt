@@ -1,17 +1,19 @@
 -- `scripts::run::end_of` meets its contract. Assumes nothing.
 use native.Mathlib.Omega.{arith}
-use mathlib.Core.Path.{sym, ◌∙◌}
-use Rattle.scripts.proofs.Ends.{end_here, end_on, end_past}
+use mathlib.Core.Path.{sym}
+use Rattle.scripts.proofs.Ends.{end_past, end_part, end_within}
 use Rattle.scripts.proofs.run.end_of.Goals as goal
 
-pub returns-then-not-goes_on : goal.returns-then-not-goes_on
-returns-then-not-goes_on c =
-    sym (c.loop-i.invariant ∙ end_here _ _ _ (omega arith) (sym c.goes_on.ensures ∙ c.if-not-goes_on.true))
+pub returns-then-at-bytes : goal.returns-then-at-bytes
+returns-then-at-bytes c =
+    sym (end_past _ _ _ c.if-at-bytes.true)
 
-pub loop-i-preserved : goal.loop-i-preserved
-loop-i-preserved c =
-    c.loop-i.invariant ∙ end_on _ _ _ (omega arith) (sym c.goes_on.ensures ∙ c.if-not-goes_on.false)
+pub overflow_add-result : goal.overflow_add-result
+overflow_add-result c =
+    let a = c.args in
+    omega (arith, c.run_len.ensures, end_part a.run a.bytes.now a.at, end_within a.run a.bytes.now a.at (omega arith))
 
 pub returns : goal.returns
 returns c =
-    sym (c.loop-i.invariant ∙ end_past _ _ _ (omega arith))
+    let a = c.args in
+    rw c.run_len.ensures (end_part a.run a.bytes.now a.at)

@@ -5,4 +5,4 @@ use Rattle.shell.proofs.start.lend.Goals as goal
 
 pub returns : goal.returns
 returns g c =
-    lent_begun _ _ _ _ _ c.asked_of-a.ensures (search rules) c.lent.ensures
+    lent_begun _ _ _ _ _ c.asked_of.ensures (search rules) (search rules) c.lent.ensures
