@@ -9,11 +9,17 @@ module _ {E : Type 0} where
   after_of done (Ok k) = Ok (cond (eqb k 0) None (Some (done + k)))
   after_of done (Err e) = Err e
 
-  -- what a reading of `done` bytes comes to by it: it goes on from more bytes, or the input has ended, or it has failed
+  -- what a reading of `done` bytes that stops there has come to
+  abbrev pub outcome : ℕ → Result (Option ℕ) E → Result ℕ E
+  outcome done (Ok (Some n)) = Ok n
+  outcome done (Ok None) = Ok done
+  outcome done (Err e) = Err e
+
+  -- it goes on from more bytes, and else stops
   abbrev pub next_of : ℕ → Result (Option ℕ) E → (ℕ → Result ℕ E) → Result ℕ E
   next_of done (Ok (Some n)) on = on n
-  next_of done (Ok None) on = Ok done
-  next_of done (Err e) on = Err e
+  next_of done (Ok None) on = outcome done (Ok None)
+  next_of done (Err e) on = outcome done (Err e)
 
   -- what a reading of `done` bytes comes to by these answers
   unfoldable pub input_of : ℕ → List (Result ℕ E) → Result ℕ E

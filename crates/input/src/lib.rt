@@ -1,13 +1,13 @@
 // Reading that tells a failed read from the end of the input, over a reader of std. What an answer of `read` makes of the bytes read so far is
-// specs/Input.antt's `after_of`; proofs/Answers.antt has the law over any answers: one that fails before the end makes the whole fail by its error, and
-// else the bytes are counted. A reader's contract knows no history, but what it says of the bytes that are known to come holds of the whole reading:
-// where none failed they stand in the lent bytes, as many as there is room for.
+// specs/Input.antt's `after_of`, and what a reading that stops has come to its `outcome`; proofs/Answers.antt has the law over any answers: one that
+// fails before the end makes the whole fail by its error, and else the bytes are counted. A reader's contract knows no history, but what it says of
+// the bytes that are known to come holds of the whole reading: where none failed they stand in the lent bytes, as many as there is room for.
 #![tactic(auto)]
 
 mod failure;
 
 ghost use Rattle.std.specs.Prelude.{◌≡◌, ◌+◌, ◌<◌, ◌^◌, IfOk, length, take};
-ghost use Rattle.input.specs.Input.{after_of, Stands, Takes, Filled, TakesAll};
+ghost use Rattle.input.specs.Input.{after_of, outcome, Stands, Takes, Filled, TakesAll};
 
 pub use failure::fail;
 use std::io;
@@ -21,6 +21,17 @@ fn after(done: usize, answer: io::Result<usize>) -> io::Result<Option<usize>>
     match answer? {
         0 => Ok(None),
         k => Ok(Some(done + k)),
+    }
+}
+
+// What a reading of `done` bytes that stops here has come to.
+fn outcome(done: usize, got: io::Result<Option<usize>>) -> io::Result<usize>
+    ensures { result ≡ outcome done got }
+{
+    match got {
+        Ok(Some(n)) => Ok(n),
+        Ok(None) => Ok(done),
+        Err(e) => Err(e),
     }
 }
 
@@ -43,8 +54,14 @@ pub fn read_all<R: Read>(reader: &mut R, buf: &mut [u8]) -> io::Result<usize>
     ensures known { TakesAll (R.remaining reader.old) (R.remaining reader.new) result buf.new }
 {
     let mut done = 0;
-    while let Some(n) = read_more(reader, buf, done)? {
+    loop {
+        let got = read_more(reader, buf, done);
+        let Ok(more) = got else {
+            return outcome(done, got);
+        };
+        let Some(n) = more else {
+            return outcome(done, got);
+        };
         done = n;
     }
-    Ok(done)
 }

@@ -1,13 +1,16 @@
 -- Laws of any search or sweep: how a loop in code goes on, and what it comes to. They speak of no image.
 -- Assumes nothing.
 use Prim.Native.Nat.{ℕ, zero, suc, ◌+◌, ◌-◌, ◌≤◌, ◌<◌}
-use mathlib.Core.Path.{◌≡◌, refl, subst}
-use mathlib.Core.Bool.{Bool, true, false, cond}
+use mathlib.Core.Path.{◌≡◌, refl, sym, ◌∙◌, subst}
+use mathlib.Core.Bool.{Bool, true, false, not, cond}
 use mathlib.Core.Logic.{⊎_elim}
 use native.Mathlib.Nat.{eq-or-lt_of_le}
 use native.Mathlib.Omega.{arith}
-use Rattle.loops.specs.Loop.{each, first, tally, bit}
+use borrow.Author.Tests.{not-true, not-false}
+use Rattle.loops.specs.Loop.{each, first, every, tally, bit}
 use Rattle.loops.proofs.Tests.{clash, lt_or_ge}
+use Rattle.loops.proofs.Loops.{every_so}
+use Rattle.loops.proofs.Turns.{every_fails}
 
 module _ {X : Type 0} where
   pub each_same : (f g : X → ℕ → X) (n : ℕ) (x : X) → ((y : X) (i : ℕ) → i < n → f y i ≡ g y i) → each n f x ≡ each n g x
@@ -114,3 +117,12 @@ module _ (f g : ℕ → Bool) where
       omega arith)
       (λ (q : j < n). omega (arith, tally_both n 1 0 (omega (arith, tally_above n j q a b (λ i k. h i (omega arith)))) (h n (omega arith))))
       (eq-or-lt_of_le (omega arith))
+
+module _ (n : ℕ) (f g : ℕ → Bool) (h : (i : ℕ) → f i ≡ not (g i)) where
+  -- one that meets the test is one that fails its opposite
+  pub first_fails : first n 0 f < n → every n g ≡ false
+  first_fails l =
+      sym (every_fails g n (first n 0 f) l (not-true (g (first n 0 f)) (sym (h (first n 0 f)) ∙ first_some f n 0 (omega arith))))
+
+  pub first_every : n ≤ first n 0 f → every n g ≡ true
+  first_every l = every_so n g (λ i m. not-false (g i) (sym (h i) ∙ first_none f n 0 (omega arith) i (omega arith) (omega arith)))

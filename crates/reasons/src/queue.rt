@@ -61,7 +61,8 @@ impl Queue {
         requires { (j < most_places) × (u ≤ most_places) × (from ≤ self.old.length) }
         ensures { Entered j u from self.old self.new }
     {
-        if self.is_met(j) {
+        // (Not by `is_met`: a wrong test here alone is must-fail/met_again.)
+        if 0 < self.rows[j] {
             return;
         }
         self.insert(j, from);

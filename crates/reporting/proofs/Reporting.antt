@@ -25,7 +25,7 @@ use Rattle.std.specs.Prelude.{Option, None, Some, IfSome, Ok, Err}
 use Rattle.recovery.specs.declared.Fault.{Fault}
 use Rattle.recovery.specs.Answers.{out, byte_in, Recovery}
 use Rattle.reporting.specs.declared.asked.Asked.{Asked}
-use Rattle.reporting.specs.Report.{most_bytes, most_words, room, answer_word, line_word, byte_word, kept_word, phase_word, toolong_word, row, objects, refused_text, kept_text, told, shown, asked_of, recovered_for, recovered_text, report_of, reported}
+use Rattle.reporting.specs.Report.{most_bytes, most_words, room, answer_word, line_word, byte_word, kept_word, phase_word, toolong_word, row, objects, refused_text, kept_text, told, shown, asked_of, words_of, shown_for, recovered_text, report_of, reported}
 use Rattle.reporting.proofs.Headings.{Bounded, log_bounded, asked_bounded}
 use Rattle.reporting.proofs.Texts.{row_length, objects_length, places_most}
 
@@ -53,6 +53,10 @@ shown_length P S log r hp hs = by r.verdict
     by : (v : Verdict) → length (told P S v (byte_of log v) r.kept r.image) ≤ room
     by (Ok _) = kept_length P S r.kept r.image hp hs
     by (Err q) = refused_length q.number q.extra (byte_of log (Err q))
+
+-- what is said of a log where it asks for so much
+abbrev recovered_for : List ℕ → Option Asked → List ℕ
+recovered_for log o = shown_for o log (recover_of log (words_of o))
 
 recovered_length : (log : List ℕ) → length (recovered_text log) ≤ room
 unfolding recovered_text

@@ -135,14 +135,14 @@ words_of (Some a) = a.words
 abbrev pub lent : List ℕ → ℕ
 lent log = words_of (asked_of log)
 
--- what is said of a log that asks for so much: what recovery answers into the words that are lent
-abbrev pub recovered_for : List ℕ → Option Asked → List ℕ
-recovered_for log None = shown 0 0 log (recover_of log 0)
-recovered_for log (Some a) = shown a.partitions a.slots log (recover_of log a.words)
+-- what is said of a log that asks for so much, and of what recovery answers
+abbrev pub shown_for : Option Asked → List ℕ → Recovered → List ℕ
+shown_for None log r = shown 0 0 log r
+shown_for (Some a) log r = shown a.partitions a.slots log r
 
--- what is said of a log that is not too long
+-- what is said of a log that is not too long: what recovery answers into the words that are lent
 unfoldable pub recovered_text : List ℕ → List ℕ
-recovered_text log = recovered_for log (asked_of log)
+recovered_text log = shown_for (asked_of log) log (recover_of log (lent log))
 
 -- THE REPORT of a log
 unfoldable pub report_of : List ℕ → List ℕ

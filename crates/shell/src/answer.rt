@@ -58,18 +58,15 @@ pub(crate) fn recovered<W: Write>(out: &mut W, r: Result<usize, Fault>) -> io::R
 
 pub(crate) fn asked<W: Write>(out: &mut W, a: Result<bool, Refusal>) -> io::Result<()> {
     match a {
-        Ok(true) => writeln!(out, "yes"),
-        Ok(false) => writeln!(out, "no"),
+        Ok(true) => out.write_all(b"yes\n"),
+        Ok(false) => out.write_all(b"no\n"),
         Err(r) => refused(out, r),
     }
 }
 
 fn record<W: Write>(out: &mut W, r: Record) -> io::Result<()> {
-    write!(out, "record {}", r.payload)?;
-    for f in &r.fields {
-        write!(out, " {}", Held(f.target))?;
-    }
-    writeln!(out)
+    let [a, b, c, d] = r.fields.map(|f| Held(f.target));
+    writeln!(out, "record {} {a} {b} {c} {d}", r.payload)
 }
 
 pub(crate) fn found<W: Write>(out: &mut W, r: Result<Record, Refusal>) -> io::Result<()> {

@@ -1,5 +1,5 @@
 // The script as it comes: all of it before the first line or, at a terminal, line by line.
-ghost use Rattle.std.specs.Prelude.{◌≡◌, ◌+◌, ◌<◌, ◌≤◌, IsSome, length};
+ghost use Rattle.std.specs.Prelude.{◌≡◌, ◌+◌, ◌<◌, ◌≤◌, IfSome, length};
 ghost use Rattle.input.specs.Input.{Stands};
 ghost use Rattle.shell.specs.Feed.{room, most};
 
@@ -103,7 +103,7 @@ impl Feed {
     // The line from here to its end, where a byte 13 is blank.
     fn line(&mut self, script: &[u8], end: usize) -> Line
         requires { (self.old.at ≤ end) × (end ≤ self.old.have) × (self.old.have ≤ length script.now) }
-        ensures { self.old.at < self.new.at }
+        ensures { (result.start ≡ self.old.at) × (self.old.at < self.new.at) }
     {
         let start = self.at;
         self.at = end + 1;
@@ -117,7 +117,7 @@ impl Feed {
     // The last line, which may lack its end.
     fn last(&mut self, script: &[u8]) -> Option<Line>
         requires { self.old.have ≤ length script.now }
-        ensures { IsSome result → self.old.at < self.new.at }
+        ensures { IfSome result (λ l. (l.start ≡ self.old.at) × (self.old.at < self.new.at)) }
     {
         let end = self.have;
         if self.at < end {
@@ -135,7 +135,7 @@ impl Feed {
         script: &mut [u8],
     ) -> Option<Line>
         requires { room ≡ length script.old }
-        ensures { IsSome result → self.old.at < self.new.at }
+        ensures { IfSome result (λ l. (l.start ≡ self.old.at) × (self.old.at < self.new.at)) }
     {
         if self.have < self.at {
             return None;

@@ -50,6 +50,22 @@ fn answer<W: Write>(
     Ok(())
 }
 
+// The same, and the status after it. (Not built into `lines`: most lines of a script may have no answer.)
+#[inline(never)]
+fn told<R: Print + Eprint>(
+    rt: &R,
+    out: &mut Out<'_, R>,
+    said: Response,
+    d: Desk,
+    img: &[u32; WORDS],
+    log: &[u8; 65536],
+    prompted: bool,
+) -> Status
+    requires { Lent d img.now log.now }
+{
+    Status::of(rt, answer(out, said, d, img, log, prompted))
+}
+
 // The number of a line that is `what?` goes to standard error.
 fn noted<R: Eprint>(rt: &R, said: Response, number: usize) -> Status {
     if !matches!(said, Response::What) {
@@ -86,8 +102,8 @@ fn lines<R: Print + Eprint + Env + Files, S: Read + IsTerminal>(
         keep(&mut ops, o, d.waits);
         d = turn.desk;
         number += 1;
-        if status != Status::Failed {
-            status = status.max(Status::of(rt, answer(out, turn.said, d, &img, &log, feed.more)));
+        if status != Status::Failed && !matches!(turn.said, Response::Nothing) {
+            status = status.max(told(rt, out, turn.said, d, &img, &log, feed.more));
         }
         status = status.max(noted(rt, turn.said, number));
     }

@@ -7,20 +7,29 @@ use crate::help::help;
 use crate::show::show;
 use desk::{Desk, Response};
 use image::WORDS;
+use kinds::Partition;
 use scripts::order::Look;
 use std::io;
 use std::io::Write;
 
-// The first n bytes of the lent buffer, as they are.
+// The first n bytes of the lent buffer, as they are: after what waits, and at once.
 fn front<W: Write>(out: &mut W, n: usize, log: &[u8]) -> io::Result<()> {
-    out.write_all(&log[..n.min(log.len())])
+    out.flush()?;
+    out.write_all(&log[..n.min(log.len())])?;
+    out.flush()
+}
+
+// (Not built into `seen`, since a function clears at entry what is built into it: here an outlist's two kilobytes.)
+#[inline(never)]
+fn outlist<W: Write>(out: &mut W, img: &[u32], p: Partition) -> io::Result<()> {
+    listed(out, catalogue::outlist(img, p))
 }
 
 fn seen<W: Write>(out: &mut W, l: Look, img: &[u32], log: &[u8]) -> io::Result<()> {
     match l {
         Look::Read(n) => found(out, catalogue::read(img, n)),
         Look::Ask(n) => asked(out, catalogue::ask(img, n)),
-        Look::Outlist(p) => listed(out, catalogue::outlist(img, p)),
+        Look::Outlist(p) => outlist(out, img, p),
         Look::Digest => digest(out, img, log),
         Look::Show => show(out, img),
         Look::Log(n) => front(out, n, log),
@@ -28,7 +37,8 @@ fn seen<W: Write>(out: &mut W, l: Look, img: &[u32], log: &[u8]) -> io::Result<(
     }
 }
 
-// The same of the words and bytes that are lent.
+// The same of the words and bytes that are lent. (Nor is this built into `say`.)
+#[inline(never)]
 fn seen_on<W: Write>(out: &mut W, l: Look, d: Desk, img: &[u32], log: &[u8]) -> io::Result<()>
     requires { Lent d img.now log.now }
 {
@@ -47,8 +57,8 @@ pub(crate) fn say<W: Write>(
 {
     match said {
         Response::Nothing => Ok(()),
-        Response::What => writeln!(out, "what?"),
-        Response::Ok => writeln!(out, "ok"),
+        Response::What => out.write_all(b"what?\n"),
+        Response::Ok => out.write_all(b"ok\n"),
         Response::Waits(n) => writeln!(out, "waits {n}"),
         Response::Done(a) => answered(out, a),
         Response::Closed(c) => closed(out, c),

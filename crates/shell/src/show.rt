@@ -7,7 +7,7 @@ ghost use Rattle.image.specs.Within.{Within};
 
 use crate::answer::Held;
 use image::{ANCHORS, anchor_at, field_at, flag_at, head_at, inlist_at, payload_at, state_at};
-use kinds::{Field, Partition, target_of};
+use kinds::{Partition, target_of};
 use std::io;
 use std::io::Write;
 
@@ -15,10 +15,8 @@ const ROOTS: usize = kinds::ROOTS as usize;
 
 const FLAGS: usize = Partition::LIMIT as usize;
 
-const FIELDS: usize = Field::LIMIT as usize;
-
 fn raw<W: Write>(out: &mut W, words: &[u32]) -> io::Result<()> {
-    writeln!(out, "not sound")?;
+    out.write_all(b"not sound\n")?;
     for (i, w) in words.iter().enumerate() {
         if *w != 0 {
             writeln!(out, "word {i} {w}")?;
@@ -82,14 +80,11 @@ impl Sound<'_> {
         Ok(())
     }
 
-    // The fields of the object at place j.
-    fn fields<W: Write>(&self, out: &mut W, j: usize) -> io::Result<()>
-        requires { j < self.now.p * self.now.s }
+    // What field k of the object at place j names.
+    fn field(&self, j: usize, k: usize) -> Held
+        requires { (j < self.now.p * self.now.s) × (k < 4) }
     {
-        for k in 0..FIELDS {
-            write!(out, " {}", Held(target_of(field_at(self.img, j, k))))?;
-        }
-        Ok(())
+        Held(target_of(field_at(self.img, j, k)))
     }
 
     // The object at place j, slot j % s of partition j / s; a free slot has none.
@@ -102,16 +97,19 @@ impl Sound<'_> {
         if state == 0 {
             return Ok(());
         }
+        // (One `writeln!` for the line: each takes as long as some twenty bytes.)
         let s = self.s;
-        write!(
+        writeln!(
             out,
-            "object {}.{} payload {payload} {} fields",
+            "object {}.{} payload {payload} {} fields {} {} {} {} counted {count}",
             j / s,
             j % s,
-            mark(state)
-        )?;
-        self.fields(out, j)?;
-        writeln!(out, " counted {count}")
+            mark(state),
+            self.field(j, 0),
+            self.field(j, 1),
+            self.field(j, 2),
+            self.field(j, 3)
+        )
     }
 
     // Every object, in partition then slot order.

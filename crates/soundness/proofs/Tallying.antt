@@ -13,12 +13,12 @@ use lib.ListN.{length, get_or, set, replicate, length-set, length-replicate}
 use lib.Seq.{get_or-set_same, get_or-set_other}
 use borrow.Author.Tests.{eq-eqb, ne_eqb, le-leb, lt-leb}
 use Rattle.loops.specs.Loop.{both, bit, every, tally}
-use Rattle.loops.proofs.Tests.{both_false, both_self, clash, bit_le, eq_or_ne}
+use Rattle.loops.proofs.Tests.{both_false, both_self, is_false, clash, bit_le, eq_or_ne}
 use Rattle.loops.proofs.Loops.{tally_le, every_so}
 use Rattle.loops.proofs.Turns.{tally_more}
 use Rattle.kinds.specs.Names.{most_partitions, most_places}
 use Rattle.model.specs.Image.{Image, state, field, get, place_of, part_of, abroad}
-use Rattle.model.specs.Sound.{points, in_count, ref_ok, free_ok, slot_ok}
+use Rattle.model.specs.Sound.{Free, points, in_count, ref_ok, free_ok, slot_ok}
 use Rattle.model.proofs.Keys.{zeros}
 use Rattle.model.proofs.Places.{part_of_lem}
 use Rattle.model.proofs.Soundness.{ref_nothing, free_true}
@@ -86,6 +86,10 @@ tallied_free {S} {x} j {c} e t = tallied_at (4 * j + 4) (4 * (j + 1)) (omega ari
     skip : (k : ℕ) → k ≤ 4 → Tallied S x (4 * j + k) c
     skip zero l = tallied_at (4 * j) (4 * j + 0) (omega arith) t
     skip (suc k) l = tallied_at (4 * j + k + 1) (4 * j + suc k) (omega arith) (tallied_nothing j k (omega arith) _ refl (skip k (omega arith)) ((free_true x j e).fields k (omega arith)))
+
+-- what is no free slot fails the test for one
+pub free_not : (x : Image) (j : ℕ) → (Free x j → ⊥) → false ≡ free_ok x j
+free_not x j h = sym (is_false (free_ok x j) (λ e. h (free_true x j e)))
 
 -- a slot: free, with an unknown state, in use
 fields_free : (P S : ℕ) (x : Image) (j : ℕ) → both (every 4 (λ k. ref_ok P S x (field j k))) (free_ok x j) ≡ free_ok x j

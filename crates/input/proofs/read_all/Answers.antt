@@ -19,10 +19,10 @@ taken_more a b c done n was now h kept before read =
     ap (λ (k : ℕ). take k now) m ∙ take-add done (n - done) now ∙ ap (λ (l : List ℕ). l ++ take (n - done) (drop done now)) kept in
     rw e (Consumes-trans a b c _ _ before read)
 
-pub loop-n-preserved : goal.loop-n-preserved
-loop-n-preserved g c =
-    let t = c.loop-n in
-    let r = c.read_more in
-    let s = rw c.in-Some.is at c.in_ok-n.ensures.stands in
-    let k = rw c.in-Some.is at c.in_ok-n.ensures.known in
+pub loop-more-preserved : goal.loop-more-preserved
+loop-more-preserved g c =
+    let t = c.loop-more in
+    let r = c.read_more-got in
+    let s = rw (c.in-Ok.is, c.in-Some.is) at r.ensures.stands in
+    let k = rw (c.in-Ok.is, c.in-Some.is) at r.ensures.known in
     (r.auto.buf ∙ t.invariant.0, s.1, taken_more _ _ _ _ _ _ _ (omega arith) r.ensures.kept t.invariant.2 k)

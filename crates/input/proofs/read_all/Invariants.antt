@@ -5,10 +5,10 @@ use mathlib.Core.Path.{◌≡◌}
 use Rattle.std.specs.Io.KnownBytes.{Consumes}
 use Rattle.input.proofs.read_all.Given as goal
 
-abbrev pub invariant-loop-n : goal.invariant-loop-n
-invariant-loop-n g l =
+abbrev pub invariant-loop-more : goal.invariant-loop-more
+invariant-loop-more g l =
     (length l.buf ≡ length l.initial.buf) × (l.done ≤ length l.buf)
     × Consumes (g.R.Read.remaining l.initial.reader) (g.R.Read.remaining l.reader) (take l.done l.buf)
 
-abbrev pub decreases-loop-n : goal.decreases-loop-n
-decreases-loop-n g l = length l.buf - l.done
+abbrev pub decreases-loop-more : goal.decreases-loop-more
+decreases-loop-more g l = length l.buf - l.done

@@ -3,7 +3,8 @@ use Rattle.std.proofs.Common.{rules, tests}
 use Rattle.std.proofs.lemmas.Iterator.{serves_from_Range}
 use Rattle.loops.proofs.Ranges.{all_range}
 use Rattle.soundness.proofs.Rows.{shaped_has}
-use mathlib.Core.Path.{refl}
+use native.Mathlib.Omega.{arith}
+use mathlib.Core.Path.{◌≡◌, refl}
 use lib.Dec.{eqb}
 use borrow.Author.Tests.{eq-eqb, ne_eqb}
 use Rattle.kinds.specs.Names.{fields}
@@ -23,10 +24,11 @@ all-requires-clause-callable c =
 pub returns-then-payload_at-eq0 : goal.returns-then-payload_at-eq0
 unfolding free_ok
 returns-then-payload_at-eq0 c =
-    rw (← c.payload_at.ensures, eq-eqb _ _ c.if-payload_at-eq0.true)
+    let none : c.payload_at.result ≡ 0 = omega (arith, c.if-payload_at-eq0.true) in
+    rw (← c.payload_at.ensures, eq-eqb _ _ none)
     (all_range fields (λ k. eqb (get c.args.img.now (field c.args.j k)) 0) _ _ _ c.all.ensures.ran refl (λ x b q k. search (rules, tests)))
 
 pub returns-else-payload_at-eq0 : goal.returns-else-payload_at-eq0
 unfolding free_ok
 returns-else-payload_at-eq0 c =
-    rw (← c.payload_at.ensures, ne_eqb _ _ c.if-payload_at-eq0.false)
+    rw (← c.payload_at.ensures, ne_eqb _ _ (λ (none : c.payload_at.result ≡ 0). c.if-payload_at-eq0.false (omega (arith, none))))

@@ -4,10 +4,10 @@ use mathlib.Core.Path.{refl}
 use borrow.Author.Rules.{rules}
 use Rattle.shell.proofs.run.lines.Goals as goal
 
-pub answer-requires : goal.answer-requires
-answer-requires g c =
+pub told-requires : goal.told-requires
+told-requires g c =
     lent_next _ _ _ _ _ _ c.loop-line.invariant _ _ _ _ _ _ c.step-turn.ensures (search rules) (search rules)
 
 pub loop-line-preserved : goal.loop-line-preserved
 loop-line-preserved g c =
-    held_next _ _ _ _ _ _ c.loop-line.invariant _ _ _ _ _ _ c.step-turn.ensures (search rules) (search rules) _ _ (search rules) (c.in-Some.ensures refl)
+    held_next _ _ _ _ _ _ c.loop-line.invariant _ _ _ _ _ _ c.step-turn.ensures (search rules) (search rules) _ _ (search rules) c.in-Some.ensures.1
