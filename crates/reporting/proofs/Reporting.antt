@@ -63,8 +63,8 @@ unfolding recovered_text
 recovered_length log = by (asked_of log) (log_bounded log)
   where
     by : (o : Option Asked) → IfSome o Bounded → length (recovered_for log o) ≤ room
-    by None b = shown_length 0 0 log (recover_of log 0) (omega arith) (omega arith)
-    by (Some a) b = shown_length a.partitions a.slots log (recover_of log a.words) b.few b.narrow
+    by None b = shown_length 0 0 log (recover_of log (words_of None)) (omega arith) (omega arith)
+    by (Some a) b = shown_length a.partitions a.slots log (recover_of log (words_of (Some a))) b.few b.narrow
 
 -- NO REPORT has more than 65,536 bytes
 pub report_length : (log : List ℕ) → length (report_of log) ≤ room
